@@ -1,0 +1,12 @@
+pub mod Core
+pub mod Sheet
+pub mod Component
+pub mod Anchor
+pub mod Candidates
+pub mod Support
+pub mod Reuse
+pub mod Step
+pub mod Sweep
+pub mod Changed
+pub mod Choice
+pub mod Session

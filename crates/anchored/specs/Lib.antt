@@ -1,0 +1,9 @@
+pub mod Graph
+pub mod Core
+pub mod Component
+pub mod Followers
+pub mod Sheet
+pub mod Step
+pub mod Changed
+pub mod Session
+pub mod Cases

@@ -1,0 +1,265 @@
+-- Laws of tables, membership and counts. Assumes nothing.
+use mathlib.Core.Path.{_≡_, refl, sym, ap, ap₂, _∙_, subst}
+use mathlib.Core.Logic.{_↔_, _⊎_, inl, inr, ⊎-elim}
+use mathlib.Core.Bool.{Bool, true, false, not, _&&_, _||_}
+use mathlib.Core.List.{List, [], _∷_, _++_, append-assoc, append-nil}
+use Prim.Native.Nat.{ℕ, zero, suc, _+_, _-_, _≤_, _<_, zero-le}
+use native.Mathlib.Nat.{not-suc-le-zero, eq-or-lt-of-le}
+use native.Mathlib.Numerals.{add-one}
+use native.Mathlib.Omega.{arith}
+use lib.ListN.{length, take, drop, getD, set, length-append, List·getD-append}
+use lib.Seq.{take-suc, take-all, set-at, drop-cons, drop-length, getD-at, ext-getD}
+use lib.Dec.{T, eqb, T-not, not-T, eqb→eq, eqb-refl}
+use Rattle.finite.specs.Count.{bit, tabulate, below, count, In, Distinct}
+use Rattle.finite.proofs.Tests.{and-i, and-l, and-r, split, eqb-of, neqb, of-true}
+
+-- ---- bit
+
+pub bit-le : (b : Bool) → bit b ≤ 1
+bit-le true = omega arith
+bit-le false = omega arith
+
+pub bit-zero : (b : Bool) → bit b ≡ 0 → b ≡ false
+bit-zero true z = absurd (omega arith)
+bit-zero false z = refl
+
+pub bit-yes : (b : Bool) → T b → bit b ≡ 1
+bit-yes true t = refl
+bit-yes false t = absurd t
+
+pub bit-no : (b : Bool) → T (not b) → bit b ≡ 0
+bit-no true t = absurd t
+bit-no false t = refl
+
+pub bit-mono : (a b : Bool) → (T a → T b) → bit a ≤ bit b
+bit-mono true b f = omega (arith, bit-yes b (f tt))
+bit-mono false b f = zero-le
+
+-- ---- In
+
+pub in-at : (l : List ℕ) (i d : ℕ) → i < length l → In (getD l i d) l
+in-at [] i d h = absurd (not-suc-le-zero h)
+in-at (w ∷ ws) zero d h = inl refl
+in-at (w ∷ ws) (suc i) d h = inr (in-at ws i d (omega arith))
+
+pub at-in : (l : List ℕ) (w d : ℕ) → In w l → (i : ℕ) × (i < length l) × (getD l i d ≡ w)
+at-in [] w d h = absurd h
+at-in (u ∷ us) w d (inl e) = (0, omega arith, sym e)
+at-in (u ∷ us) w d (inr h) = let r = at-in us w d h in (suc (r .0), omega arith, r .2)
+
+in-append : (l m : List ℕ) (w : ℕ) → In w (l ++ m) ↔ (In w l ⊎ In w m)
+in-append [] m w = (inr, ⊎-elim (λ i. absurd i) (λ i. i))
+in-append (u ∷ us) m w = let r = in-append us m w in (
+  ⊎-elim (λ e. inl (inl e)) (λ i. ⊎-elim (λ j. inl (inr j)) inr (r .0 i)),
+  ⊎-elim (⊎-elim inl (λ j. inr (r .1 (inl j)))) (λ j. inr (r .1 (inr j))),
+)
+
+-- ---- tabulate
+
+module _ (f : ℕ → ℕ) where
+  pub length-tabulate : (n : ℕ) → length (tabulate f n) ≡ n
+  unfolding tabulate
+  length-tabulate zero = refl
+  length-tabulate (suc n) = omega (arith, length-append (tabulate f n) (f n ∷ []), length-tabulate n)
+
+  pub tabulate-at : (n i : ℕ) → i < n → getD (tabulate f n) i 0 ≡ f i
+  unfolding tabulate
+  tabulate-at zero i h = absurd (omega arith)
+  tabulate-at (suc n) i h =
+      let l : i ≤ n = omega arith in
+      ⊎-elim
+      (λ e. rw e (getD-at (tabulate f n) (f n) [] 0 n (length-tabulate n)))
+      (λ lt. List·getD-append (tabulate f n) (f n ∷ []) 0 i (omega (arith, length-tabulate n)) ∙ tabulate-at n i lt)
+      (eq-or-lt-of-le l)
+
+  -- a loop that stores f 0, f 1, .. over d: nothing stored, one more stored, all stored
+  pub fill-none : (d : List ℕ) → d ≡ tabulate f 0 ++ drop 0 d
+  unfolding tabulate
+  fill-none d = refl
+
+  pub fill-more : (d e : List ℕ) (i : ℕ) → e ≡ tabulate f i ++ drop i d → i < length d → set e i (f i) ≡ tabulate f (i + 1) ++ drop (i + 1) d
+  unfolding tabulate
+  fill-more d e i q h =
+      let r : drop i d ≡ getD d i 0 ∷ drop (suc i) d = drop-cons d i 0 h in
+      rw (q, r, add-one, append-assoc, set-at (tabulate f i) (getD d i 0) (drop (suc i) d) (f i) i (length-tabulate i))
+
+  pub fill-all : (d : List ℕ) (i : ℕ) → i ≡ length d → tabulate f i ++ drop i d ≡ tabulate f i
+  fill-all d i q = rw (q, drop-length, append-nil)
+
+  -- where the next store goes still stands the old element
+  pub fill-here : (d e : List ℕ) (i : ℕ) → e ≡ tabulate f i ++ drop i d → i < length d → getD e i 0 ≡ getD d i 0
+  fill-here d e i q h =
+      let r : drop i d ≡ getD d i 0 ∷ drop (suc i) d = drop-cons d i 0 h in
+      rw (q, r) (getD-at (tabulate f i) (getD d i 0) (drop (suc i) d) 0 i (length-tabulate i))
+
+pub tabulate-cong : (f g : ℕ → ℕ) (n : ℕ) → ((i : ℕ) → i < n → f i ≡ g i) → tabulate f n ≡ tabulate g n
+unfolding tabulate
+tabulate-cong f g zero e = refl
+tabulate-cong f g (suc n) e = let r = tabulate-cong f g n (λ i h. e i (omega arith)) in let q = e n (omega arith) in rw (r, q)
+
+-- a list is the table of its own elements
+pub tabulate-self : (xs : List ℕ) (n : ℕ) → length xs ≡ n → tabulate (λ i. getD xs i 0) n ≡ xs
+tabulate-self xs n e =
+    ext-getD 0 (tabulate (λ i. getD xs i 0) n) xs (length-tabulate (λ i. getD xs i 0) n ∙ sym e)
+    (λ i h. tabulate-at (λ i. getD xs i 0) n i (omega (arith, length-tabulate (λ i. getD xs i 0) n)))
+
+-- ---- below
+
+pub length-below : (n : ℕ) → length (below n) ≡ n
+unfolding below
+length-below n = length-tabulate (λ i. i) n
+
+pub in-below : (n w : ℕ) → In w (below n) ↔ (w < n)
+unfolding below
+in-below n w = (
+  λ i.
+      let r = at-in (tabulate (λ j. j) n) w 0 i in
+      let k : r .0 < n = omega (arith, length-tabulate (λ j. j) n) in
+      subst (λ z. z < n) (sym (tabulate-at (λ j. j) n (r .0) k) ∙ r .2) k,
+  λ h. subst (λ z. In z (tabulate (λ j. j) n)) (tabulate-at (λ j. j) n w h) (in-at (tabulate (λ j. j) n) w 0 (omega (arith, length-tabulate (λ j. j) n))),
+)
+
+-- ---- count: one test
+
+module _ (p : ℕ → Bool) where
+  pub count-length : (l : List ℕ) → count p l ≤ length l
+  unfolding count
+  count-length [] = zero-le
+  count-length (w ∷ ws) = omega (arith, bit-le (p w), count-length ws)
+
+  pub count-append : (l m : List ℕ) → count p (l ++ m) ≡ count p l + count p m
+  unfolding count
+  count-append [] m = omega arith
+  count-append (w ∷ ws) m = omega (arith, count-append ws m)
+
+  -- a loop over a list: none counted, one more counted, all counted
+  pub count-start : (l : List ℕ) → count p (take 0 l) ≡ 0
+  unfolding count
+  count-start l = refl
+
+  pub count-more : (l : List ℕ) (i : ℕ) → i < length l → count p (take (i + 1) l) ≡ count p (take i l) + bit (p (getD l i 0))
+  unfolding count
+  count-more l i h = rw (add-one, take-suc l i 0, count-append) (omega arith)
+
+  pub count-end : (l : List ℕ) (i : ℕ) → length l ≤ i → count p (take i l) ≡ count p l
+  count-end l i h = ap (count p) (take-all i l h)
+
+  -- a loop over the numbers below a bound
+  pub count-below-zero : count p (below 0) ≡ 0
+  unfolding count below tabulate
+  count-below-zero = refl
+
+  pub count-below-more : (i : ℕ) → count p (below (i + 1)) ≡ count p (below i) + bit (p i)
+  unfolding count below tabulate
+  count-below-more i = rw (add-one, tabulate, count-append) (omega arith)
+
+  -- one that passes: the count is not 0
+  pub count-some : (l : List ℕ) (w : ℕ) → In w l → T (p w) → 0 < count p l
+  unfolding count
+  count-some [] w i t = absurd i
+  count-some (u ∷ us) w (inl e) t = omega (arith, bit-yes (p u) (subst (λ z. T (p z)) e t))
+  count-some (u ∷ us) w (inr i) t = omega (arith, count-some us w i t)
+
+  -- none that passes: the count is 0
+  pub count-none : (l : List ℕ) → ((w : ℕ) → In w l → T (not (p w))) → count p l ≡ 0
+  unfolding count
+  count-none [] f = refl
+  count-none (u ∷ us) f = omega (arith, bit-no (p u) (f u (inl refl)), count-none us (λ w i. f w (inr i)))
+
+  pub count-all : (l : List ℕ) → ((w : ℕ) → In w l → T (p w)) → count p l ≡ length l
+  unfolding count
+  count-all [] f = refl
+  count-all (u ∷ us) f = omega (arith, bit-yes (p u) (f u (inl refl)), count-all us (λ w i. f w (inr i)))
+
+-- ---- count: two tests
+
+module _ (p q : ℕ → Bool) where
+  pub count-mono : (l : List ℕ) → ((w : ℕ) → In w l → T (p w) → T (q w)) → count p l ≤ count q l
+  unfolding count
+  count-mono [] f = zero-le
+  count-mono (w ∷ ws) f = omega (arith, bit-mono (p w) (q w) (f w (inl refl)), count-mono ws (λ u i. f u (inr i)))
+
+  pub count-cong : (l : List ℕ) → ((w : ℕ) → In w l → p w ≡ q w) → count p l ≡ count q l
+  unfolding count
+  count-cong [] f = refl
+  count-cong (w ∷ ws) f = omega (arith, ap bit (f w (inl refl)), count-cong ws (λ u i. f u (inr i)))
+
+  -- a greater count has a witness
+  pub count-witness : (l : List ℕ) → count q l < count p l → (w : ℕ) × In w l × T (p w) × T (not (q w))
+  unfolding count
+  count-witness [] h = absurd (not-suc-le-zero h)
+  count-witness (w ∷ ws) h = split (p w)
+      (λ t. split (q w)
+      (λ s. let r = count-witness ws (omega (arith, bit-yes (p w) t, bit-yes (q w) s)) in (r .0, inr (r .1), r .2, r .3))
+      (λ s. (w, inl refl, t, s)))
+      (λ t. let r = count-witness ws (omega (arith, bit-no (p w) t)) in (r .0, inr (r .1), r .2, r .3))
+
+  pub count-strict : (l : List ℕ) → ((w : ℕ) → In w l → T (p w) → T (q w)) → (w : ℕ) → In w l → T (q w) → T (not (p w)) → count p l < count q l
+  unfolding count
+  count-strict [] f w i t s = absurd i
+  count-strict (u ∷ us) f w (inl e) t s =
+      omega (arith, bit-yes (q u) (subst (λ z. T (q z)) e t), bit-no (p u) (subst (λ z. T (not (p z))) e s), count-mono us (λ z i. f z (inr i)))
+  count-strict (u ∷ us) f w (inr i) t s = omega (arith, bit-mono (p u) (q u) (f u (inl refl)), count-strict us (λ z j. f z (inr j)) w i t s)
+
+  -- p within q, and as many: the same
+  pub count-same : (l : List ℕ) → ((w : ℕ) → In w l → T (p w) → T (q w)) → count q l ≤ count p l → (w : ℕ) → In w l → T (q w) → T (p w)
+  count-same l f h w i t = split (p w) (λ s. s) (λ s. absurd (omega (arith, count-strict l f w i t s)))
+
+  -- p passes only where q does, or at x: at most one more
+  pub count-off : (x : ℕ) (l : List ℕ) → Distinct l → ((w : ℕ) → In w l → (w ≡ x → ⊥) → T (p w) → T (q w)) → count p l ≤ suc (count q l)
+  unfolding count
+  count-off x [] d f = zero-le
+  count-off x (w ∷ ws) d f = split (eqb w x)
+      (λ t. omega (arith, bit-le (p w), count-mono ws (λ u i. f u (inr i) (λ e. d .0 (subst (λ z. In z ws) (e ∙ sym (eqb→eq w x t)) i)))))
+      (λ t. omega (arith, bit-mono (p w) (q w) (f w (inl refl) (neqb w x t)), count-off x ws (d .1) (λ u i. f u (inr i))))
+
+  -- a union has at most as many as the two, and as many if they are disjoint
+  pub count-or : (l : List ℕ) → count (λ w. p w || q w) l ≤ count p l + count q l
+  unfolding count
+  count-or [] = zero-le
+  count-or (w ∷ ws) = omega (arith, bit-or (p w) (q w), count-or ws)
+    where
+      bit-or : (a b : Bool) → bit (a || b) ≤ bit a + bit b
+      bit-or true b = omega arith
+      bit-or false b = omega arith
+
+  pub count-union : (l : List ℕ) → ((w : ℕ) → In w l → T (p w) → T (not (q w))) → count (λ w. p w || q w) l ≡ count p l + count q l
+  unfolding count
+  count-union [] f = refl
+  count-union (w ∷ ws) f = omega (arith, bit-apart (p w) (q w) (f w (inl refl)), count-union ws (λ u i. f u (inr i)))
+    where
+      bit-apart : (a b : Bool) → (T a → T (not b)) → bit (a || b) ≡ bit a + bit b
+      bit-apart true b g = omega (arith, bit-no b (g tt))
+      bit-apart false b g = omega arith
+
+-- what passes p in a list without repeats passes q and stands in another list: no more of them
+pub count-inject : (p q : ℕ → Bool) (l m : List ℕ) → Distinct l → ((w : ℕ) → In w l → T (p w) → T (q w) × In w m) → count p l ≤ count q m
+unfolding count
+count-inject p q [] m d f = zero-le
+count-inject p q (u ∷ us) m d f = split (p u)
+    (λ t.
+    let h = f u (inl refl) t in
+    let rest : ℕ → Bool = λ w. q w && not (eqb u w) in
+    let c = count-inject p rest us m (d .1) (λ w i s. (and-i (q w) _ (f w (inr i) s .0) (not-T (eqb u w) (λ e. d .0 (subst (λ z. In z us) (sym (eqb→eq u w e)) i))), f w (inr i) s .1)) in
+    let s = count-strict rest q m (λ w i. and-l (q w) _) u (h .1) (h .0) (not-T (rest u) (λ e. T-not (eqb u u) (and-r (q u) _ e) (eqb-refl u))) in
+    omega (arith, bit-le (p u)))
+    (λ t. omega (arith, bit-no (p u) t, count-inject p q us m (d .1) (λ w i. f w (inr i))))
+
+-- ---- a list without repeats of numbers below n
+
+module _ (l : List ℕ) (n : ℕ) (d : Distinct l) (f : (w : ℕ) → In w l → w < n) where
+  pub distinct-length : length l ≤ n
+  distinct-length =
+      let a = count-all (λ w. true) l (λ w i. tt) in
+      let b = count-inject (λ w. true) (λ w. true) l (below n) d (λ w i t. (tt, in-below n w .1 (f w i))) in
+      let c = count-length (λ w. true) (below n) in
+      omega (arith, length-below n)
+
+  -- and less than n of them if one below n is left out
+  pub distinct-other : (v : ℕ) → v < n → (In v l → ⊥) → length l < n
+  distinct-other v b g =
+      let a = count-all (λ w. true) l (λ w i. tt) in
+      let c = count-inject (λ w. true) (λ w. not (eqb w v)) l (below n) d (λ w i t. (not-T (eqb w v) (λ e. g (subst (λ z. In z l) (eqb→eq w v e) i)), in-below n w .1 (f w i))) in
+      let s = count-strict (λ w. not (eqb w v)) (λ w. true) (below n) (λ w i t. tt) v (in-below n v .1 b) tt (not-T (not (eqb v v)) (λ t. T-not (eqb v v) t (eqb-refl v))) in
+      let e = count-length (λ w. true) (below n) in
+      omega (arith, length-below n)

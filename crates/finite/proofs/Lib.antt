@@ -1,0 +1,5 @@
+pub mod Tests
+pub mod Count
+pub mod Search
+pub mod Sets
+pub mod Pairs

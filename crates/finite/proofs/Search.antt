@@ -1,0 +1,283 @@
+-- Laws of searches. Assumes nothing.
+use mathlib.Core.Path.{_≡_, refl, sym, ap, ap₂, _∙_, subst}
+use mathlib.Core.Logic.{_↔_, _⊎_, inl, inr, ⊎-elim}
+use mathlib.Core.Bool.{Bool, true, false, not, cond, _&&_, _||_, or-false, or-assoc}
+use mathlib.Core.List.{List, [], _∷_, _++_}
+use Prim.Native.Nat.{ℕ, zero, suc, _+_, _-_, _≤_, _<_, zero-le}
+use native.Mathlib.Nat.{eq-or-lt-of-le, add-zero, add-suc, suc-add, zero-add}
+use native.Mathlib.Numerals.{add-one}
+use native.Mathlib.Omega.{arith}
+use lib.ListN.{length, take, getD}
+use lib.Seq.{take-suc}
+use lib.Dec.{T, leb, ltb, eqb, leb→le, le→leb, nleb→lt, T-not, not-T, eqb→eq, eqb-refl}
+use Rattle.finite.specs.Count.{bit, below, count, In, Distinct}
+use Rattle.finite.specs.Search.{any, all, member, firstFrom, first, largest, NoneBelow, rises, ascending}
+use Rattle.finite.proofs.Tests.{and-i, and-l, and-r, or-l, or-r, or-e, nand, split, same, true-of, false-of, of-true, of-false, eqb-of, neqb}
+use Rattle.finite.proofs.Count.{in-at, at-in, in-below, count-some, count-witness, count-strict, count-none}
+
+-- ---- any and all, over a list
+
+module _ (p : ℕ → Bool) where
+  pub any-i : (l : List ℕ) (w : ℕ) → In w l → T (p w) → T (any p l)
+  unfolding any
+  any-i [] w i t = absurd i
+  any-i (u ∷ us) w (inl e) t = or-l (p u) _ (subst (λ z. T (p z)) e t)
+  any-i (u ∷ us) w (inr i) t = or-r (p u) _ (any-i us w i t)
+
+  pub any-e : (l : List ℕ) → T (any p l) → (w : ℕ) × In w l × T (p w)
+  unfolding any
+  any-e [] t = absurd t
+  any-e (u ∷ us) t = or-e (p u) _ t (λ h. (u, inl refl, h)) (λ h. let r = any-e us h in (r .0, inr (r .1), r .2))
+
+  pub all-i : (l : List ℕ) → ((w : ℕ) → In w l → T (p w)) → T (all p l)
+  unfolding all
+  all-i [] f = tt
+  all-i (u ∷ us) f = and-i (p u) _ (f u (inl refl)) (all-i us (λ w i. f w (inr i)))
+
+  pub all-e : (l : List ℕ) → T (all p l) → (w : ℕ) → In w l → T (p w)
+  unfolding all
+  all-e [] t w i = absurd i
+  all-e (u ∷ us) t w (inl e) = subst (λ z. T (p z)) (sym e) (and-l (p u) _ t)
+  all-e (u ∷ us) t w (inr i) = all-e us (and-r (p u) _ t) w i
+
+  -- over the numbers below a bound
+  pub all-below-i : (n : ℕ) → ((v : ℕ) → v < n → T (p v)) → T (all p (below n))
+  all-below-i n f = all-i (below n) (λ v i. f v (in-below n v .0 i))
+
+  pub all-below-e : (n : ℕ) → T (all p (below n)) → (v : ℕ) → v < n → T (p v)
+  all-below-e n t v h = all-e (below n) t v (in-below n v .1 h)
+
+  -- a loop over the places of a list: one passes, or none does
+  pub any-at : (l : List ℕ) (i : ℕ) → i < length l → p (getD l i 0) ≡ true → any p l ≡ true
+  any-at l i h e = true-of (any p l) (any-i l (getD l i 0) (in-at l i 0 h) (of-true (p (getD l i 0)) e))
+
+  pub any-none : (l : List ℕ) → NoneBelow (λ i. p (getD l i 0)) (length l) → any p l ≡ false
+  any-none l f = false-of (any p l) (not-T (any p l) (λ t.
+      let r = any-e l t in
+      let i = at-in l (r .0) 0 (r .1) in
+      T-not (p (r .0)) (subst (λ z. T (not (p z))) (i .2) (of-false (p (getD l (i .0) 0)) (f (i .0) (i .1)))) (r .2)))
+
+  -- none passes: each fails
+  pub not-any : (l : List ℕ) → any p l ≡ false → (w : ℕ) → In w l → p w ≡ false
+  not-any l e w i = false-of (p w) (not-T (p w) (λ t. T-not (any p l) (of-false (any p l) e) (any-i l w i t)))
+
+  pub none-any : (l : List ℕ) → ((w : ℕ) → In w l → p w ≡ false) → any p l ≡ false
+  none-any l f = any-none l (λ i h. f (getD l i 0) (in-at l i 0 h))
+
+  -- some number passes exactly when the count is not 0
+  pub any-count : (l : List ℕ) → any p l ≡ ltb 0 (count p l)
+  any-count l = same (any p l) (ltb 0 (count p l))
+      (λ t. let r = any-e l t in le→leb 1 (count p l) (count-some p l (r .0) (r .1) (r .2)))
+      (λ t. let r = count-witness p (λ w. false) l (omega (arith, leb→le 1 (count p l) t, count-none (λ w. false) l (λ w i. tt))) in any-i l (r .0) (r .1) (r .2))
+
+-- equal tests pass alike
+pub any-cong : (p q : ℕ → Bool) (l : List ℕ) → ((w : ℕ) → In w l → p w ≡ q w) → any p l ≡ any q l
+unfolding any
+any-cong p q [] e = refl
+any-cong p q (u ∷ us) e = ap₂ _||_ (e u (inl refl)) (any-cong p q us (λ w i. e w (inr i)))
+
+pub any-append : (p : ℕ → Bool) (l m : List ℕ) → any p (l ++ m) ≡ any p l || any p m
+unfolding any
+any-append p [] m = refl
+any-append p (u ∷ us) m = ap (λ z. p u || z) (any-append p us m) ∙ sym (or-assoc (p u) (any p us) (any p m))
+
+-- one more number looked at
+pub any-more : (p : ℕ → Bool) (l : List ℕ) (i : ℕ) → i < length l → any p (take (i + 1) l) ≡ any p (take i l) || p (getD l i 0)
+unfolding any
+any-more p l i h = rw (add-one, take-suc l i 0) (any-append p (take i l) (getD l i 0 ∷ []) ∙ ap (λ z. any p (take i l) || z) (or-false (p (getD l i 0))))
+
+pub member-i : (w : ℕ) (l : List ℕ) → In w l → T (member w l)
+member-i w l i = any-i (eqb w) l w i (eqb-refl w)
+
+pub member-e : (w : ℕ) (l : List ℕ) → T (member w l) → In w l
+member-e w l t = let r = any-e (eqb w) l t in subst (λ z. In z l) (sym (eqb→eq w (r .0) (r .2))) (r .1)
+
+-- v stands in a list exactly when more of its numbers are at least v than at least v + 1
+pub member-count : (v : ℕ) (l : List ℕ) → member v l ≡ ltb (count (leb (v + 1)) l) (count (leb v) l)
+member-count v l = same (member v l) (ltb (count (leb (v + 1)) l) (count (leb v) l))
+    (λ t. le→leb (suc (count (leb (v + 1)) l)) (count (leb v) l)
+    (count-strict (leb (v + 1)) (leb v) l (λ w i s. le→leb v w (omega (arith, leb→le (v + 1) w s))) v (member-e v l t) (le→leb v v (omega arith))
+    (not-T (leb (v + 1) v) (λ s. absurd (omega (arith, leb→le (v + 1) v s))))))
+    (λ t.
+    let r = count-witness (leb v) (leb (v + 1)) l (leb→le (suc (count (leb (v + 1)) l)) (count (leb v) l) t) in
+    let e : v ≡ r .0 = omega (arith, leb→le v (r .0) (r .2), nleb→lt (v + 1) (r .0) (r .3)) in
+    any-i (eqb v) l (r .0) (r .1) (eqb-of v (r .0) e))
+
+-- ---- first
+
+module _ (p : ℕ → Bool) where
+  from-hit : (k i j : ℕ) → i ≤ j → j < i + k → ((m : ℕ) → i ≤ m → m < j → p m ≡ false) → p j ≡ true → firstFrom p k i ≡ j
+  unfolding firstFrom
+  from-hit zero i j l h none hit = absurd (omega arith)
+  from-hit (suc k) i j l h none hit =
+      ⊎-elim
+      (λ e. let y : p i ≡ true = rw e hit in rw y e)
+      (λ lt. let y : p i ≡ false = none i (omega arith) lt in
+      let r : firstFrom p k (suc i) ≡ j = from-hit k (suc i) j lt (omega arith) (λ m a b. none m (omega arith) b) hit in
+      rw y r)
+      (eq-or-lt-of-le l)
+
+  from-none : (k i : ℕ) → ((m : ℕ) → i ≤ m → m < i + k → p m ≡ false) → firstFrom p k i ≡ i + k
+  unfolding firstFrom
+  from-none zero i none = omega arith
+  from-none (suc k) i none =
+      let y : p i ≡ false = none i (omega arith) (omega arith) in
+      rw y (omega (arith, from-none k (suc i) (λ m a b. none m (omega arith) (omega arith))))
+
+  from-le : (k i : ℕ) → firstFrom p k i ≤ i + k
+  unfolding firstFrom
+  from-le zero i = omega arith
+  from-le (suc k) i = at (p i) (from-le k (suc i))
+    where
+      at : (b : Bool) → firstFrom p k (suc i) ≤ suc i + k → cond b i (firstFrom p k (suc i)) ≤ i + suc k
+      at true ih = omega arith
+      at false ih = omega arith
+
+  from-below : (k i m : ℕ) → i ≤ m → m < firstFrom p k i → p m ≡ false
+  unfolding firstFrom
+  from-below zero i m l h = absurd (omega arith)
+  from-below (suc k) i m l h = at (p i) refl h (from-below k (suc i) m)
+    where
+      at : (b : Bool) → p i ≡ b → m < cond b i (firstFrom p k (suc i)) → (i < m → m < firstFrom p k (suc i) → p m ≡ false) → p m ≡ false
+      at true e h ih = absurd (omega arith)
+      at false e h ih = ⊎-elim (λ q. rw (← q) e) (λ lt. ih lt h) (eq-or-lt-of-le l)
+
+  from-passes : (k i : ℕ) → firstFrom p k i < i + k → T (p (firstFrom p k i))
+  unfolding firstFrom
+  from-passes zero i h = absurd (omega arith)
+  from-passes (suc k) i h = at (p i) refl h (from-passes k (suc i))
+    where
+      at : (b : Bool) → p i ≡ b → cond b i (firstFrom p k (suc i)) < i + suc k → (firstFrom p k (suc i) < suc i + k → T (p (firstFrom p k (suc i)))) → T (p (cond b i (firstFrom p k (suc i))))
+      at true e h ih = of-true (p i) e
+      at false e h ih = ih (omega arith)
+
+  -- a search loop: it stops at i, or passes n
+  pub first-hit : (n i : ℕ) → NoneBelow p i → i < n → p i ≡ true → first p n ≡ i
+  unfolding first
+  first-hit n i none h hit = from-hit n 0 i (omega arith) (omega arith) (λ m a b. none m b) hit
+
+  pub first-none : (n : ℕ) → NoneBelow p n → first p n ≡ n
+  unfolding first
+  first-none n none = from-none n 0 (λ m a b. none m (omega arith)) ∙ omega arith
+
+  pub first-le : (n : ℕ) → first p n ≤ n
+  unfolding first
+  first-le n = omega (arith, from-le n 0)
+
+  -- what the lowest index says of the test: it fails below, and passes there
+  pub first-below : (n : ℕ) → NoneBelow p (first p n)
+  unfolding first
+  first-below n k h = from-below n 0 k (omega arith) h
+
+  pub first-passes : (n : ℕ) → first p n < n → T (p (first p n))
+  unfolding first
+  first-passes n h = from-passes n 0 (omega arith)
+
+  pub none-of : (n : ℕ) → first p n ≡ n → NoneBelow p n
+  none-of n e k h = first-below n k (omega arith)
+
+  pub first-before : (n j : ℕ) → j < first p n → T (not (p j))
+  first-before n j h = of-false (p j) (first-below n j h)
+
+  pub first-least : (n j : ℕ) → T (p j) → first p n ≤ j
+  first-least n j t = split (leb (first p n) j) (leb→le (first p n) j) (λ g. absurd (T-not (p j) (first-before n j (nleb→lt (first p n) j g)) t))
+
+  -- one below n passes: so does the lowest
+  pub first-holds : (n j : ℕ) → j < n → T (p j) → T (p (first p n))
+  first-holds n j h t = first-passes n (omega (arith, first-least n j t))
+
+  -- n itself passes: so does the lowest
+  pub first-ends : (n : ℕ) → T (p n) → T (p (first p n))
+  first-ends n t = split (eqb (first p n) n)
+      (λ e. subst (λ z. T (p z)) (sym (eqb→eq (first p n) n e)) t)
+      (λ e. first-passes n (let ne : (first p n ≡ n → ⊥) = neqb (first p n) n e in omega (arith, first-le n)))
+
+-- equal tests have the same lowest index
+pub first-cong : (p q : ℕ → Bool) (n : ℕ) → ((v : ℕ) → v < n → p v ≡ q v) → first p n ≡ first q n
+first-cong p q n e =
+    split (ltb (first q n) n)
+    (λ t. let h = leb→le (suc (first q n)) n t in
+    first-hit p n (first q n) (λ k l. e k (omega arith) ∙ first-below q n k l) h (e (first q n) h ∙ true-of (q (first q n)) (first-passes q n h)))
+    (λ t. let h : first q n ≡ n = omega (arith, nleb→lt (suc (first q n)) n t, first-le q n) in
+    first-none p n (λ k l. e k l ∙ none-of q n h k l) ∙ sym h)
+
+-- ---- largest
+
+module _ (p : ℕ → Bool) where
+  pub largest-holds : (m : ℕ) → T (p zero) → T (p (largest p m))
+  unfolding largest
+  largest-holds zero t = t
+  largest-holds (suc k) t = go (p (suc k)) refl (largest-holds k t)
+    where
+      go : (b : Bool) → p (suc k) ≡ b → T (p (largest p k)) → T (p (cond b (suc k) (largest p k)))
+      go true e r = of-true (p (suc k)) e
+      go false e r = r
+
+  pub largest-max : (m k : ℕ) → k ≤ m → T (p k) → k ≤ largest p m
+  unfolding largest
+  largest-max zero k h t = h
+  largest-max (suc m) k h t = go (p (suc m)) refl (λ g. largest-max m k g t)
+    where
+      go : (b : Bool) → p (suc m) ≡ b → (k ≤ m → k ≤ largest p m) → k ≤ cond b (suc m) (largest p m)
+      go true e r = h
+      go false e r = r (split (leb k m) (leb→le k m) (λ g. absurd (subst T e (subst (λ z. T (p z)) (omega (arith, nleb→lt k m g)) t))))
+
+-- ---- a greatest value
+
+-- of the numbers below n that pass, if one does, one has the greatest value
+pub greatest : (p : ℕ → Bool) (f : ℕ → ℕ) (n v : ℕ) → v < n → T (p v) → (w : ℕ) × (w < n) × T (p w) × ((u : ℕ) → u < n → T (p u) → f u ≤ f w)
+greatest p f zero v h t = absurd (omega arith)
+greatest p f (suc n) v h t = split (any p (below n))
+    (λ s.
+    let r = any-e p (below n) s in
+    let g = greatest p f n (r .0) (in-below n (r .0) .0 (r .1)) (r .2) in
+    split (p n && ltb (f (g .0)) (f n))
+    (λ q.
+    let more = leb→le (suc (f (g .0))) (f n) (and-r (p n) _ q) in
+    (n, omega arith, and-l (p n) _ q, λ u b k. ⊎-elim (λ e. omega (arith, ap f e)) (λ l. omega (arith, g .3 u l k)) (last u b)))
+    (λ q. (
+      g .0,
+      omega (arith, g .1),
+      g .2,
+      λ u b k. ⊎-elim
+          (λ e. let less = nleb→lt (suc (f (g .0))) (f n) (nand (p n) (ltb (f (g .0)) (f n)) q (subst (λ z. T (p z)) e k)) in omega (arith, ap f e))
+          (λ l. g .3 u l k) (last u b),
+    )))
+    (λ s.
+    let only : (u : ℕ) → u < suc n → T (p u) → u ≡ n = λ u b k. ⊎-elim (λ e. e) (λ l. absurd (T-not (any p (below n)) s (any-i p (below n) u (in-below n u .1 l) k))) (last u b) in
+    (n, omega arith, subst (λ z. T (p z)) (only v h t) t, λ u b k. omega (arith, ap f (only u b k))))
+  where
+    last : (u : ℕ) → u < suc n → (u ≡ n) ⊎ (u < n)
+    last u b = let l : u ≤ n = omega arith in eq-or-lt-of-le l
+
+-- ---- strictly ascending lists
+
+pub ascending-step : (xs : List ℕ) → T (ascending xs) → (i : ℕ) → i + 1 < length xs → getD xs i 0 < getD xs (i + 1) 0
+unfolding ascending
+ascending-step xs t i h = leb→le (suc (getD xs i 0)) (getD xs (i + 1) 0) (all-below-e (rises xs) (length xs - 1) t i (omega arith))
+
+ascending-far : (xs : List ℕ) → T (ascending xs) → (i k : ℕ) → i + 1 + k < length xs → getD xs i 0 < getD xs (i + 1 + k) 0
+ascending-far xs t i zero h = let q : i + 1 + 0 ≡ i + 1 = omega arith in rw q (ascending-step xs t i (omega arith))
+ascending-far xs t i (suc k) h =
+    let q : i + 1 + suc k ≡ i + 1 + k + 1 = omega arith in
+    rw q (omega (arith, ascending-far xs t i k (omega arith), ascending-step xs t (i + 1 + k) (omega arith)))
+
+-- an earlier number is below a later one
+pub ascending-lt : (xs : List ℕ) → T (ascending xs) → (i j : ℕ) → i < j → j < length xs → getD xs i 0 < getD xs j 0
+ascending-lt xs t i j h b = let q : i + 1 + (j - (i + 1)) ≡ j = omega arith in subst (λ z. getD xs i 0 < getD xs z 0) q (ascending-far xs t i (j - (i + 1)) (omega arith))
+
+ascending-tail : (x : ℕ) (xs : List ℕ) → T (ascending (x ∷ xs)) → T (ascending xs)
+unfolding ascending
+ascending-tail x xs t = all-below-i (rises xs) (length xs - 1) (λ i h.
+    let r = ascending-step (x ∷ xs) t (suc i) (omega arith) in
+    let q : suc i + 1 ≡ suc (i + 1) = omega arith in
+    le→leb (suc (getD xs i 0)) (getD xs (i + 1) 0) (rw q at r))
+
+pub ascending-distinct : (xs : List ℕ) → T (ascending xs) → Distinct xs
+ascending-distinct [] t = tt
+ascending-distinct (x ∷ xs) t = (
+  λ i.
+      let r = at-in xs x 0 i in
+      absurd (omega (arith, ascending-lt (x ∷ xs) t 0 (suc (r .0)) (omega arith) (omega arith), r .2)),
+  ascending-distinct xs (ascending-tail x xs t),
+)

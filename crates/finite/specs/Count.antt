@@ -1,0 +1,34 @@
+-- Lists of numbers: the table of a function, membership, and how many numbers pass a test. The laws are in proofs/Count.
+use mathlib.Core.Path.{_≡_}
+use mathlib.Core.Logic.{_⊎_}
+use mathlib.Core.Bool.{Bool}
+use mathlib.Core.List.{List, [], _∷_, _++_}
+use Prim.Native.Nat.{ℕ, zero, suc, _+_}
+use mir.Val.{boolByte}
+
+-- 1 for true, 0 for false, as the code's `b as usize` has it
+abbrev pub bit : Bool → ℕ
+bit b = boolByte b
+
+-- f 0, f 1, .., f (n - 1)
+unfoldable pub tabulate : (ℕ → ℕ) → ℕ → List ℕ
+tabulate f zero = []
+tabulate f (suc n) = tabulate f n ++ f n ∷ []
+
+-- 0, 1, .., n - 1
+unfoldable pub below : ℕ → List ℕ
+below n = tabulate (λ i. i) n
+
+-- how many numbers of a list pass a test; those below n that do are `count p (below n)`
+unfoldable pub count : (ℕ → Bool) → List ℕ → ℕ
+count p [] = 0
+count p (w ∷ ws) = bit (p w) + count p ws
+
+abbrev pub In : ℕ → List ℕ → Type 0
+In w [] = ⊥
+In w (u ∷ us) = (w ≡ u) ⊎ In w us
+
+-- no number stands twice
+abbrev pub Distinct : List ℕ → Type 0
+Distinct [] = Unit {0}
+Distinct (u ∷ us) = (In u us → ⊥) × Distinct us

@@ -1,0 +1,4 @@
+pub mod Count
+pub mod Search
+pub mod Sets
+pub mod Pairs

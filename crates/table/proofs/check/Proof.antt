@@ -1,0 +1,197 @@
+-- `check` meets its contract: each refusal is the definition's, with the searches before it having found nothing. Assumes nothing.
+use mathlib.Core.Path.{_≡_, sym, _∙_}
+use mathlib.Core.Bool.{Bool, true}
+use mathlib.Core.List.{List}
+use Prim.Native.Nat.{ℕ, _≤_, _<_}
+use native.Mathlib.Omega.{arith}
+use lib.ListN.{length}
+use lib.Dec.{ltb}
+use borrow.Author.Tests.{lt-ltb, le-ltb, eq-eqb, ne-eqb}
+use borrow.Author.Needs.{needs}
+use Rattle.finite.specs.Search.{first, NoneBelow}
+use Rattle.finite.proofs.Search.{first-le, none-of}
+use Rattle.table.specs.Table.{vertices, badStart, beyond, looped, unsorted, unreturned, refused, refuse, checkOf, Framed}
+use Rattle.table.specs.declared.Checked.{Checked}
+use Rattle.table.specs.declared.Checked.the-variants.{Sound}
+use Rattle.table.proofs.Laws.{framed, pass}
+use Rattle.table.proofs.check.Statement.{statement}
+use Rattle.table.proofs.check.Tie as tie
+
+-- what is left of the answer before each search
+abbrev from-return : List ℕ → List ℕ → Checked
+from-return s l = refuse 8 (unreturned s l) (vertices s) Sound
+
+abbrev from-order : List ℕ → List ℕ → Checked
+from-order s l = refuse 7 (unsorted s l) (vertices s) (from-return s l)
+
+abbrev from-loops : List ℕ → List ℕ → Checked
+from-loops s l = refuse 6 (looped s l) (vertices s) (from-order s l)
+
+abbrev from-range : List ℕ → List ℕ → Checked
+from-range s l = refuse 5 (beyond s l) (vertices s) (from-loops s l)
+
+abbrev from-starts : List ℕ → List ℕ → Checked
+from-starts s l = refuse 4 (badStart s l) (length s) (from-range s l)
+
+-- a search whose result is below the end refuses there
+hit : (k : ℕ) (p : ℕ → Bool) (n : ℕ) (rest : Checked) {r : ℕ} → r ≡ first p n → r < n → refuse k p n rest ≡ refused k r
+hit k p n rest found h = let t : ltb (first p n) n ≡ true = lt-ltb (first p n) n (omega arith) in rw (t, found)
+
+-- one whose result is not below the end found nothing
+nothing : (p : ℕ → Bool) (n : ℕ) {r : ℕ} → r ≡ first p n → n ≤ r → NoneBelow p n
+nothing p n found h = none-of p n (omega (arith, first-le p n))
+
+abbrev entry : tie.Else3 → tie.Start
+entry c = c .before .before .before .before .before
+
+-- the answer at that place is what is left
+abbrev Left : tie.Else3 → (List ℕ → List ℕ → Checked) → Type 0
+Left c rest = let args = entry c .args in checkOf (args .starts .now) (args .links .now) ≡ rest (args .starts .now) (args .links .now)
+
+small : (c : tie.Else3) → Left c from-starts
+unfolding checkOf
+small c =
+    let s = entry c .args .starts .now in
+    let some = ne-eqb (length s) 0 (λ e. omega arith) in
+    let few-vertices = le-ltb 1024 (vertices s) (omega arith) in
+    let few-links = le-ltb 16384 (length (entry c .args .links .now)) (omega arith) in
+    simp (some, few-vertices, few-links)
+
+started : (c : tie.Else4) → Left (c .before .before) from-range
+started c = small (c .before .before) ∙ pass 4 _ _ _ (nothing _ _ (c .before .first-bad-start .ensures) (c .if4 .left))
+
+ranged : (c : tie.Else5) → Left (c .before .before .before .before) from-loops
+ranged c = started (c .before .before) ∙ pass 5 _ _ _ (nothing _ _ (c .before .first-breaking .ensures) (c .if5 .left))
+
+loopless : (c : tie.Else6) → Left (c .before .before .before .before .before .before) from-order
+loopless c = ranged (c .before .before) ∙ pass 6 _ _ _ (nothing _ _ (c .before .first-breaking2 .ensures) (c .if6 .left))
+
+ordered : (c : tie.Else7) → Left (c .before .before .before .before .before .before .before .before) from-return
+ordered c = loopless (c .before .before) ∙ pass 7 _ _ _ (nothing _ _ (c .before .first-breaking3 .ensures) (c .if7 .left))
+
+frame : (c : tie.Else4) → let args = entry (c .before .before) .args in Framed (args .starts .now) (args .links .now)
+frame c =
+    let args = entry (c .before .before) .args in
+    let s = args .starts .now in
+    let l = args .links .now in
+    framed s l (omega arith) (nothing (badStart s l) (length s) (c .before .first-bad-start .ensures) (omega arith))
+
+refused-requires : tie.Need-refused-requires
+refused-requires c κs = search needs
+
+returns : tie.Need-returns
+unfolding checkOf
+returns c = c .refused .ensures ∙ sym (simp (eq-eqb _ _ (c .before .if1 .taken)))
+
+sub-n : tie.Need-sub-n
+sub-n c = search needs
+
+refused-requires-2 : tie.Need-refused-requires-2
+refused-requires-2 c κs = search needs
+
+returns-2 : tie.Need-returns-2
+unfolding checkOf
+returns-2 c =
+    let s = c .before .before .before .before .before .args .starts .now in
+    c .refused2 .ensures ∙ sym (simp (ne-eqb _ _ (c .before .before .if1 .left), lt-ltb 1024 (vertices s) (omega arith)))
+
+refused-requires-3 : tie.Need-refused-requires-3
+refused-requires-3 c κs = search needs
+
+returns-3 : tie.Need-returns-3
+unfolding checkOf
+returns-3 c =
+    let args = c .before .before .before .before .before .before .args in
+    let few-vertices = le-ltb 1024 (vertices (args .starts .now)) (omega arith) in
+    let many-links = lt-ltb 16384 (length (args .links .now)) (omega arith) in
+    c .refused3 .ensures ∙ sym (simp (ne-eqb _ _ (c .before .before .before .if1 .left), few-vertices, many-links))
+
+first-bad-start-requires : tie.Need-first-bad-start-requires
+first-bad-start-requires c κs = search needs
+
+refused-requires-4 : tie.Need-refused-requires-4
+refused-requires-4 c κs = search needs
+
+returns-4 : tie.Need-returns-4
+returns-4 c =
+    let at = c .before in
+    c .refused4 .ensures ∙ sym (small (at .before .before) ∙ hit 4 _ _ _ (at .before .first-bad-start .ensures) (at .if4 .taken))
+
+first-breaking-requires : tie.Need-first-breaking-requires
+first-breaking-requires c κs = frame c
+
+refused-requires-5 : tie.Need-refused-requires-5
+refused-requires-5 c κs = search needs
+
+returns-5 : tie.Need-returns-5
+returns-5 c =
+    let at = c .before in
+    c .refused5 .ensures ∙ sym (started (at .before .before) ∙ hit 5 _ _ _ (at .before .first-breaking .ensures) (at .if5 .taken))
+
+first-breaking-requires-2 : tie.Need-first-breaking-requires-2
+first-breaking-requires-2 c κs = frame (c .before .before)
+
+refused-requires-6 : tie.Need-refused-requires-6
+refused-requires-6 c κs = search needs
+
+returns-6 : tie.Need-returns-6
+returns-6 c =
+    let at = c .before in
+    c .refused6 .ensures ∙ sym (ranged (at .before .before) ∙ hit 6 _ _ _ (at .before .first-breaking2 .ensures) (at .if6 .taken))
+
+first-breaking-requires-3 : tie.Need-first-breaking-requires-3
+first-breaking-requires-3 c κs = frame (c .before .before .before .before)
+
+refused-requires-7 : tie.Need-refused-requires-7
+refused-requires-7 c κs = search needs
+
+returns-7 : tie.Need-returns-7
+returns-7 c =
+    let at = c .before in
+    c .refused7 .ensures ∙ sym (loopless (at .before .before) ∙ hit 7 _ _ _ (at .before .first-breaking3 .ensures) (at .if7 .taken))
+
+first-unreturned-requires : tie.Need-first-unreturned-requires
+first-unreturned-requires c κs =
+    let range = c .before .before .before .before in (
+      frame (range .before .before),
+      (nothing _ _ (range .before .first-breaking .ensures) (range .if5 .left), nothing _ _ (c .before .first-breaking3 .ensures) (c .if7 .left)),
+    )
+
+refused-requires-8 : tie.Need-refused-requires-8
+refused-requires-8 c κs = search needs
+
+returns-8 : tie.Need-returns-8
+returns-8 c =
+    let at = c .before in
+    c .refused8 .ensures ∙ sym (ordered (at .before .before) ∙ hit 8 _ _ _ (at .before .first-unreturned .ensures) (at .if8 .taken))
+
+returns-9 : tie.Need-returns-9
+returns-9 c = sym (ordered (c .before .before) ∙ pass 8 _ _ _ (nothing _ _ (c .before .first-unreturned .ensures) (c .if8 .left)))
+
+pub check-spec : {M : Type 1} → statement M
+check-spec =
+    tie.close
+    (tie.spec
+    refused-requires
+    returns
+    sub-n
+    refused-requires-2
+    returns-2
+    refused-requires-3
+    returns-3
+    first-bad-start-requires
+    refused-requires-4
+    returns-4
+    first-breaking-requires
+    refused-requires-5
+    returns-5
+    first-breaking-requires-2
+    refused-requires-6
+    returns-6
+    first-breaking-requires-3
+    refused-requires-7
+    returns-7
+    first-unreturned-requires
+    refused-requires-8
+    returns-8
+    returns-9)

@@ -1,0 +1,55 @@
+-- The definitions compute: sound tables, and wrong tables for each refusal. Assumes nothing.
+use mathlib.Core.Path.{_≡_, refl}
+use mathlib.Core.List.{List, [], _∷_}
+use Prim.Native.Nat.{ℕ}
+use lib.ListN.{replicate}
+use Rattle.finite.specs.Count.{tabulate, below}
+use Rattle.finite.specs.Search.{any, all, firstFrom, first, ascending}
+use Rattle.table.specs.Table.{neighbors, badStart, beyond, looped, unsorted, unreturned, refused, checkOf}
+use Rattle.table.specs.declared.Checked.{Checked}
+use Rattle.table.specs.declared.Checked.the-variants.{Sound}
+
+-- the starts of a chain of four vertices
+abbrev chain : List ℕ
+chain = 0 ∷ 1 ∷ 3 ∷ 5 ∷ 6 ∷ []
+
+-- Sound: a chain, a star, no vertices. 4: start 0 not 0, a start below the one before, the last not the number of links.
+-- 7: a fall, an equal pair. 6 at 3: the lowest number comes first, though vertex 0 breaks 7. 8: the place is the vertex, not the neighbor.
+answers :
+    _≡_ {A = List Checked}
+    (checkOf chain (1 ∷ 0 ∷ 2 ∷ 1 ∷ 3 ∷ 2 ∷ [])
+    ∷ checkOf (0 ∷ 3 ∷ 4 ∷ 5 ∷ 6 ∷ []) (1 ∷ 2 ∷ 3 ∷ 0 ∷ 0 ∷ 0 ∷ [])
+    ∷ checkOf (0 ∷ []) []
+    ∷ checkOf [] []
+    ∷ checkOf (replicate 1026 0) []
+    ∷ checkOf (0 ∷ []) (replicate 16385 0)
+    ∷ checkOf (1 ∷ 1 ∷ 3 ∷ 5 ∷ 6 ∷ []) (1 ∷ 0 ∷ 2 ∷ 1 ∷ 3 ∷ 2 ∷ [])
+    ∷ checkOf (0 ∷ 3 ∷ 1 ∷ 5 ∷ 6 ∷ []) (1 ∷ 0 ∷ 2 ∷ 1 ∷ 3 ∷ 2 ∷ [])
+    ∷ checkOf (0 ∷ 1 ∷ 3 ∷ 5 ∷ 5 ∷ []) (1 ∷ 0 ∷ 2 ∷ 1 ∷ 3 ∷ 2 ∷ [])
+    ∷ checkOf chain (1 ∷ 0 ∷ 2 ∷ 1 ∷ 4 ∷ 2 ∷ [])
+    ∷ checkOf chain (1 ∷ 0 ∷ 1 ∷ 1 ∷ 3 ∷ 2 ∷ [])
+    ∷ checkOf chain (1 ∷ 2 ∷ 0 ∷ 1 ∷ 3 ∷ 2 ∷ [])
+    ∷ checkOf chain (1 ∷ 0 ∷ 0 ∷ 1 ∷ 3 ∷ 2 ∷ [])
+    ∷ checkOf (0 ∷ 2 ∷ 3 ∷ 4 ∷ 5 ∷ []) (2 ∷ 1 ∷ 0 ∷ 0 ∷ 3 ∷ [])
+    ∷ checkOf chain (1 ∷ 0 ∷ 3 ∷ 1 ∷ 3 ∷ 2 ∷ [])
+    ∷ checkOf (0 ∷ 0 ∷ 1 ∷ []) (0 ∷ [])
+    ∷ [])
+    (Sound
+    ∷ Sound
+    ∷ Sound
+    ∷ refused 1 0
+    ∷ refused 2 0
+    ∷ refused 3 0
+    ∷ refused 4 0
+    ∷ refused 4 2
+    ∷ refused 4 4
+    ∷ refused 5 2
+    ∷ refused 6 1
+    ∷ refused 7 1
+    ∷ refused 7 1
+    ∷ refused 6 3
+    ∷ refused 8 1
+    ∷ refused 8 1
+    ∷ [])
+unfolding checkOf neighbors badStart beyond looped unsorted unreturned first firstFrom any all ascending below tabulate
+answers = refl

@@ -1,0 +1,75 @@
+// The adjacency table, in two lent slices: its check, refusals 1 to 8, and the neighbors of a vertex.
+ghost use mathlib.Core.Path.{_≡_};
+ghost use Prim.Native.Nat.{_<_};
+ghost use Rattle.table.specs.Table.{vertices, checkOf, Framed};
+ghost use Rattle.table.specs.Table.{neighbors as neighborsOf, refused as refusedOf};
+
+mod part; // one vertex's neighbors
+mod rules; // the first start, or the first vertex, that breaks a rule
+
+// A refusal: document 01's number and place.
+pub struct Refusal {
+    pub number: u16,
+    pub place: usize,
+}
+
+// The answer of the check.
+pub enum Checked {
+    Sound,
+    Refused(Refusal),
+}
+
+// The neighbors of v: the links from place start v up to, not including, start v + 1.
+pub fn neighbors<'a, 'b>(starts: &'a [u16], links: &'b [u16], v: usize) -> &'b [u16]
+    requires { ⌜ Framed (now starts) (now links) ⌝ }
+    requires { ⌜ v < vertices (now starts) ⌝ }
+    ensures { λ r. ⌜ now r ≡ neighborsOf (now (starts .entry)) (now (links .entry)) v ⌝ }
+{
+    let a = starts[v] as usize;
+    let b = starts[v + 1] as usize;
+    &links[a..b]
+}
+
+// A refusal by its number and place.
+fn refused(number: u16, place: usize) -> Checked
+    ensures { λ r. ⌜ r ≡ refusedOf number place ⌝ }
+{
+    Checked::Refused(Refusal { number, place })
+}
+
+// The check of a table: the lowest number first, each tested over the whole table.
+pub fn check(starts: &[u16], links: &[u16]) -> Checked
+    ensures { λ r. ⌜ r ≡ checkOf (now (starts .entry)) (now (links .entry)) ⌝ }
+{
+    if starts.len() == 0 {
+        return refused(1, 0);
+    }
+    let n = starts.len() - 1;
+    if 1024 < n {
+        return refused(2, 0);
+    }
+    if 16384 < links.len() {
+        return refused(3, 0);
+    }
+    let start = rules::first_bad_start(starts, links);
+    if start < starts.len() {
+        return refused(4, start);
+    }
+    let far = rules::first_breaking(starts, links, 5);
+    if far < n {
+        return refused(5, far);
+    }
+    let own = rules::first_breaking(starts, links, 6);
+    if own < n {
+        return refused(6, own);
+    }
+    let unsorted = rules::first_breaking(starts, links, 7);
+    if unsorted < n {
+        return refused(7, unsorted);
+    }
+    let alone = rules::first_unreturned(starts, links);
+    if alone < n {
+        return refused(8, alone);
+    }
+    Checked::Sound
+}
