@@ -17,6 +17,8 @@ use Rattle.finite.proofs.Search.{largest-holds, largest-max, first-le, first-be
 use Rattle.finite.proofs.Sets.{has-all, has-lt, sets-ext, has-keep, length-keep, keep-same, size-length, rounds-suc, shrink-rest}
 use Rattle.anchored.specs.Graph.{Graph, Simple}
 use Rattle.anchored.specs.Core.{Solid, batch, core, level, shell, layer}
+-- the computed cases come before the theorems, so that a wrong definition is refused at a figure
+use Rattle.anchored.specs.Cases.{cases}
 
 -- ---- cores
 

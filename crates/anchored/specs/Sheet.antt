@@ -25,15 +25,15 @@ module _ (G : Graph) (A : ℕ → Bool) (lev lay : ℕ → ℕ) where
   unfoldable pub misplaced : ℕ → Bool
   misplaced v = cond (A v) (not (eqb (lev v) 65535 && eqb (lay v) 0)) (eqb (lay v) 0)
 
-  -- of level k and layer l: fewer than k neighbors of level k or more
+  -- of level k and layer l: fewer than k neighbors, anchored or of level k or more
   unfoldable pub tooHigh : ℕ → Bool
   tooHigh v = not (A v) && ltb (support v (lev v) 0) (lev v)
 
-  -- more than k neighbors at or above (k, l)
+  -- more than k neighbors, anchored or at or above (k, l)
   unfoldable pub tooLow : ℕ → Bool
   tooLow v = not (A v) && ltb (lev v) (support v (lev v) (lay v))
 
-  -- l above 1, and fewer than k + 1 neighbors at or above (k, l - 1)
+  -- l above 1, and fewer than k + 1 neighbors, anchored or at or above (k, l - 1)
   unfoldable pub tooLate : ℕ → Bool
   tooLate v = not (A v) && ltb 1 (lay v) && leb (support v (lev v) (lay v - 1)) (lev v)
 

@@ -31,7 +31,7 @@ pub fn neighbors<'a, 'b>(starts: &'a [u16], links: &'b [u16], v: usize) -> &'b [
 }
 
 // A refusal by its number and place.
-fn refused(number: u16, place: usize) -> Checked
+pub fn refused(number: u16, place: usize) -> Checked
     ensures { λ r. ⌜ r ≡ refusedOf number place ⌝ }
 {
     Checked::Refused(Refusal { number, place })
