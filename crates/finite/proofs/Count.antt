@@ -1,17 +1,17 @@
 -- Laws of tables, membership and counts. Assumes nothing.
 use mathlib.Core.Path.{_≡_, refl, sym, ap, ap₂, _∙_, subst}
 use mathlib.Core.Logic.{_↔_, _⊎_, inl, inr, ⊎-elim}
-use mathlib.Core.Bool.{Bool, true, false, not, _&&_, _||_}
+use mathlib.Core.Bool.{Bool, true, false, not, cond, _&&_, _||_}
 use mathlib.Core.List.{List, [], _∷_, _++_, append-assoc, append-nil}
 use Prim.Native.Nat.{ℕ, zero, suc, _+_, _-_, _≤_, _<_, zero-le}
 use native.Mathlib.Nat.{not-suc-le-zero, eq-or-lt-of-le}
 use native.Mathlib.Numerals.{add-one}
 use native.Mathlib.Omega.{arith}
-use lib.ListN.{length, take, drop, getD, set, length-append, List·getD-append}
-use lib.Seq.{take-suc, take-all, set-at, drop-cons, drop-length, getD-at, ext-getD}
-use lib.Dec.{T, eqb, T-not, not-T, eqb→eq, eqb-refl}
+use lib.ListN.{length, take, drop, getD, set, replicate, length-append, List·getD-append, List·getD-eq-default}
+use lib.Seq.{take-suc, take-all, length-take-le, set-at, drop-cons, drop-length, getD-at, getD-take, getD-drop, getD-append-add, getD-set-same, getD-set-other, ext-getD}
+use lib.Dec.{T, ltb, eqb, T-not, not-T, eqb→eq, eqb-refl, ltb→lt, nltb→le}
 use Rattle.finite.specs.Count.{bit, tabulate, below, count, In, Distinct}
-use Rattle.finite.proofs.Tests.{and-i, and-l, and-r, split, eqb-of, neqb, of-true}
+use Rattle.finite.proofs.Tests.{and-i, and-l, and-r, split, true-of, false-of, eqb-of, neqb, of-true}
 
 -- ---- bit
 
@@ -31,6 +31,11 @@ pub bit-no : (b : Bool) → T (not b) → bit b ≡ 0
 bit-no true t = absurd t
 bit-no false t = refl
 
+-- a mark that is a bit is 1 exactly where it is set
+pub bit-one : (b : Bool) → eqb (bit b) 1 ≡ b
+bit-one true = refl
+bit-one false = refl
+
 pub bit-mono : (a b : Bool) → (T a → T b) → bit a ≤ bit b
 bit-mono true b f = omega (arith, bit-yes b (f tt))
 bit-mono false b f = zero-le
@@ -47,14 +52,52 @@ at-in [] w d h = absurd h
 at-in (u ∷ us) w d (inl e) = (0, omega arith, sym e)
 at-in (u ∷ us) w d (inr h) = let r = at-in us w d h in (suc (r .0), omega arith, r .2)
 
-in-append : (l m : List ℕ) (w : ℕ) → In w (l ++ m) ↔ (In w l ⊎ In w m)
+-- what stands in two lists joined stands in one of them
+pub in-append : (l m : List ℕ) (w : ℕ) → In w (l ++ m) ↔ (In w l ⊎ In w m)
 in-append [] m w = (inr, ⊎-elim (λ i. absurd i) (λ i. i))
 in-append (u ∷ us) m w = let r = in-append us m w in (
   ⊎-elim (λ e. inl (inl e)) (λ i. ⊎-elim (λ j. inl (inr j)) inr (r .0 i)),
   ⊎-elim (⊎-elim inl (λ j. inr (r .1 (inl j)))) (λ j. inr (r .1 (inr j))),
 )
 
+-- one number more, that did not stand in the list
+pub distinct-snoc : (l : List ℕ) (w : ℕ) → Distinct l → (In w l → ⊥) → Distinct (l ++ w ∷ [])
+distinct-snoc [] w d f = (λ i. i, tt)
+distinct-snoc (u ∷ us) w d f = (
+  λ i. ⊎-elim (d .0) (⊎-elim (λ e. f (inl (sym e))) (λ j. j)) (in-append us (w ∷ []) u .0 i),
+  distinct-snoc us w (d .1) (λ i. f (inr i)),
+)
+
+-- ---- the first numbers of a list
+
+pub in-take : (l : List ℕ) (i w : ℕ) → In w (take i l) → In w l
+in-take [] zero w h = h
+in-take [] (suc i) w h = h
+in-take (u ∷ us) zero w h = absurd h
+in-take (u ∷ us) (suc i) w (inl e) = inl e
+in-take (u ∷ us) (suc i) w (inr h) = inr (in-take us i w h)
+
+-- one more: those before, or the next
+pub in-take-more : (l : List ℕ) (i w : ℕ) → i < length l → In w (take (i + 1) l) ↔ (In w (take i l) ⊎ (w ≡ getD l i 0))
+in-take-more l i w h = rw (add-one, take-suc l i 0) (
+  λ j. ⊎-elim inl (⊎-elim inr (λ k. absurd k)) (in-append (take i l) (getD l i 0 ∷ []) w .0 j),
+  λ j. in-append (take i l) (getD l i 0 ∷ []) w .1 (⊎-elim inl (λ e. inr (inl e)) j),
+)
+
+-- without repeats no number stands before its own place
+pub distinct-before : (l : List ℕ) (i : ℕ) → Distinct l → i < length l → In (getD l i 0) (take i l) → ⊥
+distinct-before [] i d h j = absurd (not-suc-le-zero h)
+distinct-before (u ∷ us) zero d h j = j
+distinct-before (u ∷ us) (suc i) d h (inl e) = d .0 (subst (λ z. In z us) e (in-at us i 0 (omega arith)))
+distinct-before (u ∷ us) (suc i) d h (inr j) = distinct-before us i (d .1) (omega arith) j
+
 -- ---- tabulate
+
+-- a loop that stores numbers one after the other over d: p are stored, and one more
+pub store-more : (p d e : List ℕ) (i x : ℕ) → length p ≡ i → e ≡ p ++ drop i d → i < length d → set e i x ≡ (p ++ x ∷ []) ++ drop (i + 1) d
+store-more p d e i x l q h =
+    let r : drop i d ≡ getD d i 0 ∷ drop (suc i) d = drop-cons d i 0 h in
+    rw (q, r, add-one, append-assoc, set-at p (getD d i 0) (drop (suc i) d) x i l)
 
 module _ (f : ℕ → ℕ) where
   pub length-tabulate : (n : ℕ) → length (tabulate f n) ≡ n
@@ -79,9 +122,7 @@ module _ (f : ℕ → ℕ) where
 
   pub fill-more : (d e : List ℕ) (i : ℕ) → e ≡ tabulate f i ++ drop i d → i < length d → set e i (f i) ≡ tabulate f (i + 1) ++ drop (i + 1) d
   unfolding tabulate
-  fill-more d e i q h =
-      let r : drop i d ≡ getD d i 0 ∷ drop (suc i) d = drop-cons d i 0 h in
-      rw (q, r, add-one, append-assoc, set-at (tabulate f i) (getD d i 0) (drop (suc i) d) (f i) i (length-tabulate i))
+  fill-more d e i q h = store-more (tabulate f i) d e i (f i) (length-tabulate i) q h ∙ ap (λ j. tabulate f j ++ drop (i + 1) d) (sym (add-one i))
 
   pub fill-all : (d : List ℕ) (i : ℕ) → i ≡ length d → tabulate f i ++ drop i d ≡ tabulate f i
   fill-all d i q = rw (q, drop-length, append-nil)
@@ -103,6 +144,52 @@ tabulate-self xs n e =
     ext-getD 0 (tabulate (λ i. getD xs i 0) n) xs (length-tabulate (λ i. getD xs i 0) n ∙ sym e)
     (λ i h. tabulate-at (λ i. getD xs i 0) n i (omega (arith, length-tabulate (λ i. getD xs i 0) n)))
 
+-- the first n elements of a list that holds f below n are its table
+pub tabulate-take : (f : ℕ → ℕ) (xs : List ℕ) (n : ℕ) → n ≤ length xs → ((v : ℕ) → v < n → getD xs v 0 ≡ f v) → take n xs ≡ tabulate f n
+tabulate-take f xs n h e =
+    let l = length-take-le n xs h in
+    ext-getD 0 (take n xs) (tabulate f n) (l ∙ sym (length-tabulate f n))
+    (λ i b. let lt : i < n = omega arith in getD-take n xs i 0 lt ∙ e i lt ∙ sym (tabulate-at f n i lt))
+
+-- a list copied into zeros reads as the list
+pub copied-in : (xs : List ℕ) (m v : ℕ) → getD (tabulate (λ i. getD xs i 0) (length xs) ++ drop (length xs) (replicate m 0)) v 0 ≡ getD xs v 0
+copied-in xs m v =
+    let n = length xs in
+    let spare : List ℕ = drop n (replicate m 0) in
+    let whole : tabulate (λ i. getD xs i 0) n ≡ xs = tabulate-self xs n refl in
+    rw whole (split (ltb v n)
+    (λ t. List·getD-append xs spare 0 v (ltb→lt v n t))
+    (λ t.
+    let far = nltb→le v n t in
+    let rest : n + (v - n) ≡ v = omega arith in
+    subst (λ z. getD (xs ++ spare) z 0 ≡ 0) rest (getD-append-add xs spare (v - n) 0 ∙ getD-drop n (replicate m 0) (v - n) 0 ∙ zeros m (n + (v - n)))
+    ∙ sym (List·getD-eq-default xs 0 far)))
+  where
+    zeros : (k i : ℕ) → _≡_ {A = ℕ} (getD (replicate k 0) i 0) 0
+    zeros zero i = refl
+    zeros (suc k) zero = refl
+    zeros (suc k) (suc i) = zeros k i
+
+-- ---- a value put at a place
+
+-- every other place holds what it held
+pub set-reads : (xs : List ℕ) (x y v : ℕ) → (x ≡ v → x < length xs) → getD (set xs x y) v 0 ≡ cond (eqb x v) y (getD xs v 0)
+set-reads xs x y v h = split (eqb x v)
+    (λ t.
+    let here = eqb→eq x v t in
+    rw (true-of (eqb x v) t) (subst (λ z. getD (set xs x y) z 0 ≡ y) here (getD-set-same xs x y 0 (h here))))
+    (λ t. rw (false-of (eqb x v) t) (getD-set-other xs x v y 0 (λ e. neqb x v t (sym e))))
+
+-- a mark 1 among marks
+pub set-bit : (marks : List ℕ) (i v : ℕ) (b : Bool) → v < length marks → getD marks v 0 ≡ bit b → getD (set marks i 1) v 0 ≡ bit (b || eqb i v)
+set-bit marks i v b h e = set-reads marks i 1 v (λ q. omega arith) ∙ ap (cond (eqb i v) 1) e ∙ by-case (eqb i v) b
+  where
+    by-case : (a b : Bool) → cond a 1 (bit b) ≡ bit (b || a)
+    by-case true true = refl
+    by-case true false = refl
+    by-case false true = refl
+    by-case false false = refl
+
 -- ---- below
 
 pub length-below : (n : ℕ) → length (below n) ≡ n
@@ -118,6 +205,11 @@ in-below n w = (
       subst (λ z. z < n) (sym (tabulate-at (λ j. j) n (r .0) k) ∙ r .2) k,
   λ h. subst (λ z. In z (tabulate (λ j. j) n)) (tabulate-at (λ j. j) n w h) (in-at (tabulate (λ j. j) n) w 0 (omega (arith, length-tabulate (λ j. j) n))),
 )
+
+pub distinct-below : (n : ℕ) → Distinct (below n)
+unfolding below tabulate
+distinct-below zero = tt
+distinct-below (suc n) = distinct-snoc (below n) n (distinct-below n) (λ i. absurd (omega (arith, in-below n n .0 i)))
 
 -- ---- count: one test
 
@@ -232,6 +324,25 @@ module _ (p q : ℕ → Bool) where
       bit-apart true b g = omega (arith, bit-no b (g tt))
       bit-apart false b g = omega arith
 
+-- q passes where p does, but not at x: one less below n
+pub count-less : (p q : ℕ → Bool) (x n : ℕ) → x < n → T (p x) → T (not (q x)) → ((w : ℕ) → (w ≡ x → ⊥) → p w ≡ q w) → count p (below n) ≡ suc (count q (below n))
+count-less p q x zero h t s e = absurd (omega arith)
+count-less p q x (suc n) h t s e =
+    let l : x ≤ n = omega arith in
+    let a = count-below-more p n in
+    let b = count-below-more q n in
+    ⊎-elim
+    (λ i.
+    let y : T (p n) = subst (λ z. T (p z)) i t in
+    let z : T (not (q n)) = subst (λ z. T (not (q z))) i s in
+    let c = count-cong p q (below n) (λ w j. e w (λ k. absurd (omega (arith, in-below n w .0 j)))) in
+    rw (← add-one) (omega (arith, bit-yes (p n) y, bit-no (q n) z)))
+    (λ lt.
+    let c = count-less p q x n lt t s e in
+    let d = ap bit (e n (λ k. absurd (omega arith))) in
+    rw (← add-one) (omega arith))
+    (eq-or-lt-of-le l)
+
 -- what passes p in a list without repeats passes q and stands in another list: no more of them
 pub count-inject : (p q : ℕ → Bool) (l m : List ℕ) → Distinct l → ((w : ℕ) → In w l → T (p w) → T (q w) × In w m) → count p l ≤ count q m
 unfolding count
@@ -263,3 +374,12 @@ module _ (l : List ℕ) (n : ℕ) (d : Distinct l) (f : (w : ℕ) → In w l →
       let s = count-strict (λ w. not (eqb w v)) (λ w. true) (below n) (λ w i t. tt) v (in-below n v .1 b) tt (not-T (not (eqb v v)) (λ t. T-not (eqb v v) t (eqb-refl v))) in
       let e = count-length (λ w. true) (below n) in
       omega (arith, length-below n)
+
+-- a list without repeats of just the numbers below n that pass is as long as their count
+pub count-listed : (p : ℕ → Bool) (n : ℕ) (l : List ℕ) → Distinct l → ((w : ℕ) → In w l → (w < n) × T (p w)) → ((w : ℕ) → w < n → T (p w) → In w l)
+    → count p (below n) ≡ length l
+count-listed p n l d f g =
+    let a = count-all p l (λ w i. f w i .1) in
+    let b = count-inject p p l (below n) d (λ w i t. (t, in-below n w .1 (f w i .0))) in
+    let c = count-inject p p (below n) l (distinct-below n) (λ w i t. (t, g w (in-below n w .0 i) t)) in
+    omega arith

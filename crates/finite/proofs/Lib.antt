@@ -3,3 +3,5 @@ pub mod Count
 pub mod Search
 pub mod Sets
 pub mod Pairs
+pub mod Bytes
+pub mod Stores

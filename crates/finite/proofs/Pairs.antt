@@ -4,9 +4,9 @@ use mathlib.Core.Bool.{Bool, not, _&&_, _||_}
 use Prim.Native.Nat.{ℕ, zero, suc, _≤_, _<_, zero-le}
 use native.Mathlib.Nat.{not-suc-le-zero}
 use native.Mathlib.Omega.{arith}
-use lib.Dec.{T, leb, ltb, eqb, leb→le, le→leb, nleb→lt, T-not, eqb→eq, eqb-refl}
+use lib.Dec.{T, leb, ltb, eqb, leb→le, le→leb, nleb→lt, T-not, not-T, eqb→eq, eqb-refl}
 use Rattle.finite.specs.Pairs.{pairLe}
-use Rattle.finite.proofs.Tests.{and-i, and-l, and-r, or-l, or-r, or-e, split}
+use Rattle.finite.proofs.Tests.{and-i, and-l, and-r, or-l, or-r, or-e, split, same}
 
 pub pair-lt : (k l i j : ℕ) → k < i → T (pairLe k l i j)
 unfolding pairLe
@@ -36,6 +36,12 @@ pair-zero-i k i j h = split (leb i k) (λ t. pair-eq k 0 i j (omega (arith, leb�
 
 pub pair-zero-e : (k i j : ℕ) → T (pairLe k 0 i j) → k ≤ i
 pair-zero-e k i j t = pair-e k 0 i j t (λ h. omega arith) (λ e h. omega arith)
+
+-- not at or above (k, 0): the first component is below k
+pub pair-zero-not : (k i j : ℕ) → not (pairLe k 0 i j) ≡ ltb i k
+pair-zero-not k i j = same (not (pairLe k 0 i j)) (ltb i k)
+    (λ t. pair-no k 0 i j t (λ h. le→leb (suc i) k h) (λ e h. absurd (omega arith)))
+    (λ t. not-T (pairLe k 0 i j) (λ u. absurd (omega (arith, leb→le (suc i) k t, pair-zero-e k i j u))))
 
 bounded : (Q : ℕ → Type 0) → ((m : ℕ) → ((i : ℕ) → i < m → Q i) → Q m) → (b m : ℕ) → m < b → Q m
 bounded Q f zero m h = absurd (not-suc-le-zero h)

@@ -10,10 +10,10 @@ use native.Mathlib.Omega.{arith}
 use lib.ListN.{length, take, getD}
 use lib.Seq.{take-suc}
 use lib.Dec.{T, leb, ltb, eqb, leb→le, le→leb, nleb→lt, T-not, not-T, eqb→eq, eqb-refl}
-use Rattle.finite.specs.Count.{bit, below, count, In, Distinct}
+use Rattle.finite.specs.Count.{bit, tabulate, below, count, In, Distinct}
 use Rattle.finite.specs.Search.{any, all, member, firstFrom, first, largest, NoneBelow, rises, ascending}
 use Rattle.finite.proofs.Tests.{and-i, and-l, and-r, or-l, or-r, or-e, nand, split, same, true-of, false-of, of-true, of-false, eqb-of, neqb}
-use Rattle.finite.proofs.Count.{in-at, at-in, in-below, count-some, count-witness, count-strict, count-none}
+use Rattle.finite.proofs.Count.{bit-yes, bit-no, in-at, at-in, in-below, count-some, count-cong, count-witness, count-strict, count-none}
 
 -- ---- any and all, over a list
 
@@ -46,6 +46,13 @@ module _ (p : ℕ → Bool) where
 
   pub all-below-e : (n : ℕ) → T (all p (below n)) → (v : ℕ) → v < n → T (p v)
   all-below-e n t v h = all-e (below n) t v (in-below n v .1 h)
+
+  -- a loop over the numbers below a bound: one fails, or all pass
+  pub all-below-no : (n v : ℕ) → v < n → p v ≡ false → all p (below n) ≡ false
+  all-below-no n v h e = false-of (all p (below n)) (not-T (all p (below n)) (λ t. T-not (p v) (of-false (p v) e) (all-below-e n t v h)))
+
+  pub all-below-yes : (n : ℕ) → ((v : ℕ) → v < n → p v ≡ true) → all p (below n) ≡ true
+  all-below-yes n f = true-of (all p (below n)) (all-below-i n (λ v h. of-true (p v) (f v h)))
 
   -- a loop over the places of a list: one passes, or none does
   pub any-at : (l : List ℕ) (i : ℕ) → i < length l → p (getD l i 0) ≡ true → any p l ≡ true
@@ -86,11 +93,26 @@ pub any-more : (p : ℕ → Bool) (l : List ℕ) (i : ℕ) → i < length l → 
 unfolding any
 any-more p l i h = rw (add-one, take-suc l i 0) (any-append p (take i l) (getD l i 0 ∷ []) ∙ ap (λ z. any p (take i l) || z) (or-false (p (getD l i 0))))
 
+-- none below 0, and one more number below i + 1
+pub any-below-zero : (p : ℕ → Bool) → any p (below 0) ≡ false
+unfolding any below tabulate
+any-below-zero p = refl
+
+pub any-below-more : (p : ℕ → Bool) (i : ℕ) → any p (below (i + 1)) ≡ any p (below i) || p i
+unfolding any below tabulate
+any-below-more p i = rw add-one (any-append p (below i) (i ∷ []) ∙ ap (λ z. any p (below i) || z) (or-false (p i)))
+
 pub member-i : (w : ℕ) (l : List ℕ) → In w l → T (member w l)
 member-i w l i = any-i (eqb w) l w i (eqb-refl w)
 
 pub member-e : (w : ℕ) (l : List ℕ) → T (member w l) → In w l
 member-e w l t = let r = any-e (eqb w) l t in subst (λ z. In z l) (sym (eqb→eq w (r .0) (r .2))) (r .1)
+
+pub member-yes : (w : ℕ) (l : List ℕ) → In w l → member w l ≡ true
+member-yes w l i = true-of (member w l) (member-i w l i)
+
+pub member-no : (w : ℕ) (l : List ℕ) → (In w l → ⊥) → member w l ≡ false
+member-no w l f = false-of (member w l) (not-T (member w l) (λ t. f (member-e w l t)))
 
 -- v stands in a list exactly when more of its numbers are at least v than at least v + 1
 pub member-count : (v : ℕ) (l : List ℕ) → member v l ≡ ltb (count (leb (v + 1)) l) (count (leb v) l)
@@ -102,6 +124,20 @@ member-count v l = same (member v l) (ltb (count (leb (v + 1)) l) (count (leb v)
     let r = count-witness (leb v) (leb (v + 1)) l (leb→le (suc (count (leb (v + 1)) l)) (count (leb v) l) t) in
     let e : v ≡ r .0 = omega (arith, leb→le v (r .0) (r .2), nleb→lt (v + 1) (r .0) (r .3)) in
     any-i (eqb v) l (r .0) (r .1) (eqb-of v (r .0) e))
+
+-- two tests that differ at w alone, which passes the first: one more if w stands in the list
+pub count-one : (p q : ℕ → Bool) (w : ℕ) (l : List ℕ) → Distinct l → T (p w) → T (not (q w)) → ((u : ℕ) → (u ≡ w → ⊥) → p u ≡ q u)
+    → count p l ≡ count q l + bit (member w l)
+unfolding count any
+count-one p q w [] d s t f = refl
+count-one p q w (u ∷ us) d s t f = split (eqb w u)
+    (λ e.
+    let same-vertex = eqb→eq w u e in
+    let rest = count-cong p q us (λ x i. f x (λ x-is. d .0 (subst (λ z. In z us) (x-is ∙ same-vertex) i))) in
+    omega (arith, bit-yes (p u) (subst (λ z. T (p z)) same-vertex s), bit-no (q u) (subst (λ z. T (not (q z))) same-vertex t), bit-yes (eqb w u || any (eqb w) us) (or-l (eqb w u) _ e)))
+    (λ e.
+    let other = f u (λ same-vertex. neqb w u e (sym same-vertex)) in
+    omega (arith, ap bit other, ap (λ b. bit (b || any (eqb w) us)) (false-of (eqb w u) e), count-one p q w us (d .1) s t f))
 
 -- ---- first
 

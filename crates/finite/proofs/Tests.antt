@@ -1,8 +1,9 @@
 -- Bool tests and the facts that they stand for. Assumes nothing.
 use mathlib.Core.Path.{_≡_, refl, sym, subst}
 use mathlib.Core.Bool.{Bool, true, false, not, _&&_, _||_, Bool·beq}
-use Prim.Native.Nat.{ℕ}
-use lib.Dec.{T, eqb, T-not, eqb→eq, eqb-refl}
+use Prim.Native.Nat.{ℕ, suc}
+use native.Mathlib.Omega.{arith}
+use lib.Dec.{T, leb, ltb, eqb, leb→le, le→leb, nleb→lt, T-not, not-T, eqb→eq, eqb-refl}
 
 pub and-i : (a b : Bool) → T a → T b → T (a && b)
 and-i true b p q = q
@@ -92,3 +93,8 @@ beq-of false b e = subst (λ z. T (Bool·beq false z)) e tt
 
 pub eqb-sym : (m n : ℕ) → eqb m n ≡ eqb n m
 eqb-sym m n = same (eqb m n) (eqb n m) (λ t. eqb-of n m (sym (eqb→eq m n t))) (λ t. eqb-of m n (sym (eqb→eq n m t)))
+
+pub not-leb : (m n : ℕ) → not (leb m n) ≡ ltb n m
+not-leb m n = same (not (leb m n)) (ltb n m)
+    (λ t. le→leb (suc n) m (nleb→lt m n t))
+    (λ t. not-T (leb m n) (λ s. absurd (omega (arith, leb→le m n s, leb→le (suc n) m t))))

@@ -2,3 +2,4 @@ pub mod Count
 pub mod Search
 pub mod Sets
 pub mod Pairs
+pub mod Bytes

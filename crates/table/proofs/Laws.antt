@@ -6,7 +6,7 @@ use Prim.Native.Nat.{ℕ, zero, suc, _+_, _-_, _≤_, _<_}
 use native.Mathlib.Omega.{arith}
 use lib.ListN.{length, getD, length-take, length-drop}
 use lib.Dec.{T, leb, ltb, eqb}
-use borrow.Author.Tests.{le-ltb, lt-leb, eq-eqb, ne-eqb, ltb-false, leb-false, eqb-true, eqb-false, not-false}
+use borrow.Author.Tests.{lt-ltb, le-ltb, lt-leb, eq-eqb, ne-eqb, ltb-false, leb-false, eqb-true, eqb-false, not-false}
 use Rattle.finite.specs.Count.{In}
 use Rattle.finite.specs.Search.{member, first, NoneBelow}
 use Rattle.finite.specs.Search.{ascending as ascends}
@@ -58,12 +58,12 @@ module _ (s l : List ℕ) where
   unfolding unsorted
   sorted none v h = of-true (ascends (neighbors s l v)) (not-false (ascends (neighbors s l v)) (none v h))
 
--- an answer that is sound went past each refusal
-went-on : (b : Bool) (k p : ℕ) (rest : Checked) → cond b (refused k p) rest ≡ Sound → (b ≡ false) × (rest ≡ Sound)
+-- an answer that is sound went past each refusal, and past each search
+pub went-on : (b : Bool) (k p : ℕ) (rest : Checked) → cond b (refused k p) rest ≡ Sound → (b ≡ false) × (rest ≡ Sound)
 went-on true k p rest e = let z : _≡_ {A = ℕ} 0 1 = cc in absurd (omega arith)
 went-on false k p rest e = (refl, e)
 
-went-past : (k : ℕ) (p : ℕ → Bool) (n : ℕ) (rest : Checked) → refuse k p n rest ≡ Sound → NoneBelow p n × (rest ≡ Sound)
+pub went-past : (k : ℕ) (p : ℕ → Bool) (n : ℕ) (rest : Checked) → refuse k p n rest ≡ Sound → NoneBelow p n × (rest ≡ Sound)
 went-past k p n rest e =
     let r = went-on (ltb (first p n) n) k (first p n) rest e in
     (none-of p n (omega (arith, first-le p n, ltb-false (first p n) n (r .0))), r .1)
@@ -91,6 +91,14 @@ sound s l e =
       distinct = λ v h. ascending-distinct (neighbors s l v) (sorted s l (ascending .0) v h);
       symmetric = λ v w h i. member-e v (neighbors s l w) (of-true (member v (neighbors s l w)) (not-false (member v (neighbors s l w)) (not-any (λ u. not (member v (neighbors s l u))) (neighbors s l v) (symmetric .0 v h) w i)));
     }
+
+-- a search whose result is below the end refuses there
+pub hit : (k : ℕ) (p : ℕ → Bool) (n : ℕ) (rest : Checked) {r : ℕ} → r ≡ first p n → r < n → refuse k p n rest ≡ refused k r
+hit k p n rest found h = let t : ltb (first p n) n ≡ true = lt-ltb (first p n) n (omega arith) in rw (t, found)
+
+-- one whose result is not below the end found nothing
+pub nothing : (p : ℕ → Bool) (n : ℕ) {r : ℕ} → r ≡ first p n → n ≤ r → NoneBelow p n
+nothing p n found h = none-of p n (omega (arith, first-le p n))
 
 -- a search that finds nothing goes on to the next
 pub pass : (k : ℕ) (p : ℕ → Bool) (n : ℕ) (rest : Checked) → NoneBelow p n → refuse k p n rest ≡ rest

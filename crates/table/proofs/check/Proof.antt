@@ -1,19 +1,15 @@
 -- `check` meets its contract: each refusal is the definition's, with the searches before it having found nothing. Assumes nothing.
 use mathlib.Core.Path.{_≡_, sym, _∙_}
-use mathlib.Core.Bool.{Bool, true}
 use mathlib.Core.List.{List}
-use Prim.Native.Nat.{ℕ, _≤_, _<_}
+use Prim.Native.Nat.{ℕ}
 use native.Mathlib.Omega.{arith}
 use lib.ListN.{length}
-use lib.Dec.{ltb}
 use borrow.Author.Tests.{lt-ltb, le-ltb, eq-eqb, ne-eqb}
 use borrow.Author.Needs.{needs}
-use Rattle.finite.specs.Search.{first, NoneBelow}
-use Rattle.finite.proofs.Search.{first-le, none-of}
-use Rattle.table.specs.Table.{vertices, badStart, beyond, looped, unsorted, unreturned, refused, refuse, checkOf, Framed}
+use Rattle.table.specs.Table.{vertices, badStart, beyond, looped, unsorted, unreturned, refuse, checkOf, Framed}
 use Rattle.table.specs.declared.Checked.{Checked}
 use Rattle.table.specs.declared.Checked.the-variants.{Sound}
-use Rattle.table.proofs.Laws.{framed, pass}
+use Rattle.table.proofs.Laws.{framed, hit, pass, nothing}
 use Rattle.table.proofs.check.Statement.{statement}
 use Rattle.table.proofs.check.Tie as tie
 
@@ -32,14 +28,6 @@ from-range s l = refuse 5 (beyond s l) (vertices s) (from-loops s l)
 
 abbrev from-starts : List ℕ → List ℕ → Checked
 from-starts s l = refuse 4 (badStart s l) (length s) (from-range s l)
-
--- a search whose result is below the end refuses there
-hit : (k : ℕ) (p : ℕ → Bool) (n : ℕ) (rest : Checked) {r : ℕ} → r ≡ first p n → r < n → refuse k p n rest ≡ refused k r
-hit k p n rest found h = let t : ltb (first p n) n ≡ true = lt-ltb (first p n) n (omega arith) in rw (t, found)
-
--- one whose result is not below the end found nothing
-nothing : (p : ℕ → Bool) (n : ℕ) {r : ℕ} → r ≡ first p n → n ≤ r → NoneBelow p n
-nothing p n found h = none-of p n (omega (arith, first-le p n))
 
 abbrev entry : tie.Else3 → tie.Start
 entry c = c .before .before .before .before .before
