@@ -219,7 +219,7 @@ pub record Agrees (G : Graph) (K J : Kept) : Type 0 where
 
 module _ (G : Graph) (A : ℕ → Bool) (x : ℕ) where
   -- where the rows that are not recomputed keep their number, a renewed number is the fresh one
-  renewed-fresh : (number : (ℕ → Bool) → ℕ → ℕ) (v : ℕ) → (T (not (adding A x v)) → T (not (recomputed G A (adding A x) v)) → number A v ≡ number (adding A x) v)
+  pub renewed-fresh : (number : (ℕ → Bool) → ℕ → ℕ) (v : ℕ) → (T (not (adding A x v)) → T (not (recomputed G A (adding A x) v)) → number A v ≡ number (adding A x) v)
       → renewed G A x (number (adding A x)) (rowNumber A (number A)) v ≡ rowNumber (adding A x) (number (adding A x)) v
   unfolding recomputed
   renewed-fresh number v same = split (adding A x v)

@@ -1,17 +1,17 @@
 -- Laws of tables, membership and counts. Assumes nothing.
 use mathlib.Core.Path.{_≡_, refl, sym, ap, ap₂, _∙_, subst}
 use mathlib.Core.Logic.{_↔_, _⊎_, inl, inr, ⊎-elim}
-use mathlib.Core.Bool.{Bool, true, false, not, cond, _&&_, _||_}
+use mathlib.Core.Bool.{Bool, true, false, not, _&&_, _||_, cond}
 use mathlib.Core.List.{List, [], _∷_, _++_, append-assoc, append-nil}
 use Prim.Native.Nat.{ℕ, zero, suc, _+_, _-_, _≤_, _<_, zero-le}
 use native.Mathlib.Nat.{not-suc-le-zero, eq-or-lt-of-le}
 use native.Mathlib.Numerals.{add-one}
 use native.Mathlib.Omega.{arith}
-use lib.ListN.{length, take, drop, getD, set, replicate, length-append, List·getD-append, List·getD-eq-default}
-use lib.Seq.{take-suc, take-all, length-take-le, set-at, drop-cons, drop-length, getD-at, getD-take, getD-drop, getD-append-add, getD-set-same, getD-set-other, ext-getD}
-use lib.Dec.{T, ltb, eqb, T-not, not-T, eqb→eq, eqb-refl, ltb→lt, nltb→le}
+use lib.ListN.{length, take, drop, getD, set, replicate, length-append, length-replicate, getD-replicate, List·getD-append, List·getD-eq-default}
+use lib.Seq.{take-suc, take-all, length-take-le, getD-take, set-at, drop-cons, drop-length, getD-at, ext-getD, getD-drop, getD-append-add, getD-set-same, getD-set-other}
+use lib.Dec.{T, leb, eqb, leb→le, nleb→lt, T-not, not-T, eqb→eq, eqb-refl, ltb, ltb→lt, nltb→le}
 use Rattle.finite.specs.Count.{bit, tabulate, below, count, In, Distinct}
-use Rattle.finite.proofs.Tests.{and-i, and-l, and-r, split, true-of, false-of, eqb-of, neqb, of-true}
+use Rattle.finite.proofs.Tests.{and-i, and-l, and-r, split, eqb-of, neqb, of-true, true-of, false-of}
 
 -- ---- bit
 
@@ -30,11 +30,6 @@ bit-yes false t = absurd t
 pub bit-no : (b : Bool) → T (not b) → bit b ≡ 0
 bit-no true t = absurd t
 bit-no false t = refl
-
--- a mark that is a bit is 1 exactly where it is set
-pub bit-one : (b : Bool) → eqb (bit b) 1 ≡ b
-bit-one true = refl
-bit-one false = refl
 
 pub bit-mono : (a b : Bool) → (T a → T b) → bit a ≤ bit b
 bit-mono true b f = omega (arith, bit-yes b (f tt))
@@ -90,6 +85,12 @@ distinct-before [] i d h j = absurd (not-suc-le-zero h)
 distinct-before (u ∷ us) zero d h j = j
 distinct-before (u ∷ us) (suc i) d h (inl e) = d .0 (subst (λ z. In z us) e (in-at us i 0 (omega arith)))
 distinct-before (u ∷ us) (suc i) d h (inr j) = distinct-before us i (d .1) (omega arith) j
+
+-- a list of zeros, read at any place
+pub zeros-at : (m i : ℕ) → _≡_ {A = ℕ} (getD (replicate m 0) i 0) 0
+zeros-at m i = split (leb (suc i) m)
+    (λ t. getD-replicate m i 0 0 (leb→le (suc i) m t))
+    (λ t. List·getD-eq-default (replicate m 0) 0 (omega (arith, nleb→lt (suc i) m t, length-replicate {A = ℕ} m 0)))
 
 -- ---- tabulate
 
@@ -150,45 +151,6 @@ tabulate-take f xs n h e =
     let l = length-take-le n xs h in
     ext-getD 0 (take n xs) (tabulate f n) (l ∙ sym (length-tabulate f n))
     (λ i b. let lt : i < n = omega arith in getD-take n xs i 0 lt ∙ e i lt ∙ sym (tabulate-at f n i lt))
-
--- a list copied into zeros reads as the list
-pub copied-in : (xs : List ℕ) (m v : ℕ) → getD (tabulate (λ i. getD xs i 0) (length xs) ++ drop (length xs) (replicate m 0)) v 0 ≡ getD xs v 0
-copied-in xs m v =
-    let n = length xs in
-    let spare : List ℕ = drop n (replicate m 0) in
-    let whole : tabulate (λ i. getD xs i 0) n ≡ xs = tabulate-self xs n refl in
-    rw whole (split (ltb v n)
-    (λ t. List·getD-append xs spare 0 v (ltb→lt v n t))
-    (λ t.
-    let far = nltb→le v n t in
-    let rest : n + (v - n) ≡ v = omega arith in
-    subst (λ z. getD (xs ++ spare) z 0 ≡ 0) rest (getD-append-add xs spare (v - n) 0 ∙ getD-drop n (replicate m 0) (v - n) 0 ∙ zeros m (n + (v - n)))
-    ∙ sym (List·getD-eq-default xs 0 far)))
-  where
-    zeros : (k i : ℕ) → _≡_ {A = ℕ} (getD (replicate k 0) i 0) 0
-    zeros zero i = refl
-    zeros (suc k) zero = refl
-    zeros (suc k) (suc i) = zeros k i
-
--- ---- a value put at a place
-
--- every other place holds what it held
-pub set-reads : (xs : List ℕ) (x y v : ℕ) → (x ≡ v → x < length xs) → getD (set xs x y) v 0 ≡ cond (eqb x v) y (getD xs v 0)
-set-reads xs x y v h = split (eqb x v)
-    (λ t.
-    let here = eqb→eq x v t in
-    rw (true-of (eqb x v) t) (subst (λ z. getD (set xs x y) z 0 ≡ y) here (getD-set-same xs x y 0 (h here))))
-    (λ t. rw (false-of (eqb x v) t) (getD-set-other xs x v y 0 (λ e. neqb x v t (sym e))))
-
--- a mark 1 among marks
-pub set-bit : (marks : List ℕ) (i v : ℕ) (b : Bool) → v < length marks → getD marks v 0 ≡ bit b → getD (set marks i 1) v 0 ≡ bit (b || eqb i v)
-set-bit marks i v b h e = set-reads marks i 1 v (λ q. omega arith) ∙ ap (cond (eqb i v) 1) e ∙ by-case (eqb i v) b
-  where
-    by-case : (a b : Bool) → cond a 1 (bit b) ≡ bit (b || a)
-    by-case true true = refl
-    by-case true false = refl
-    by-case false true = refl
-    by-case false false = refl
 
 -- ---- below
 
@@ -324,25 +286,6 @@ module _ (p q : ℕ → Bool) where
       bit-apart true b g = omega (arith, bit-no b (g tt))
       bit-apart false b g = omega arith
 
--- q passes where p does, but not at x: one less below n
-pub count-less : (p q : ℕ → Bool) (x n : ℕ) → x < n → T (p x) → T (not (q x)) → ((w : ℕ) → (w ≡ x → ⊥) → p w ≡ q w) → count p (below n) ≡ suc (count q (below n))
-count-less p q x zero h t s e = absurd (omega arith)
-count-less p q x (suc n) h t s e =
-    let l : x ≤ n = omega arith in
-    let a = count-below-more p n in
-    let b = count-below-more q n in
-    ⊎-elim
-    (λ i.
-    let y : T (p n) = subst (λ z. T (p z)) i t in
-    let z : T (not (q n)) = subst (λ z. T (not (q z))) i s in
-    let c = count-cong p q (below n) (λ w j. e w (λ k. absurd (omega (arith, in-below n w .0 j)))) in
-    rw (← add-one) (omega (arith, bit-yes (p n) y, bit-no (q n) z)))
-    (λ lt.
-    let c = count-less p q x n lt t s e in
-    let d = ap bit (e n (λ k. absurd (omega arith))) in
-    rw (← add-one) (omega arith))
-    (eq-or-lt-of-le l)
-
 -- what passes p in a list without repeats passes q and stands in another list: no more of them
 pub count-inject : (p q : ℕ → Bool) (l m : List ℕ) → Distinct l → ((w : ℕ) → In w l → T (p w) → T (q w) × In w m) → count p l ≤ count q m
 unfolding count
@@ -383,3 +326,45 @@ count-listed p n l d f g =
     let b = count-inject p p l (below n) d (λ w i t. (t, in-below n w .1 (f w i .0))) in
     let c = count-inject p p (below n) l (distinct-below n) (λ w i t. (t, g w (in-below n w .0 i) t)) in
     omega arith
+
+-- a mark that is a bit is 1 exactly where it is set
+pub bit-one : (b : Bool) → eqb (bit b) 1 ≡ b
+bit-one true = refl
+bit-one false = refl
+
+-- a list copied into zeros reads as the list
+pub copied-in : (xs : List ℕ) (m v : ℕ) → getD (tabulate (λ i. getD xs i 0) (length xs) ++ drop (length xs) (replicate m 0)) v 0 ≡ getD xs v 0
+copied-in xs m v =
+    let n = length xs in
+    let spare : List ℕ = drop n (replicate m 0) in
+    let whole : tabulate (λ i. getD xs i 0) n ≡ xs = tabulate-self xs n refl in
+    rw whole (split (ltb v n)
+    (λ t. List·getD-append xs spare 0 v (ltb→lt v n t))
+    (λ t.
+    let far = nltb→le v n t in
+    let rest : n + (v - n) ≡ v = omega arith in
+    subst (λ z. getD (xs ++ spare) z 0 ≡ 0) rest (getD-append-add xs spare (v - n) 0 ∙ getD-drop n (replicate m 0) (v - n) 0 ∙ zeros m (n + (v - n)))
+    ∙ sym (List·getD-eq-default xs 0 far)))
+  where
+    zeros : (k i : ℕ) → _≡_ {A = ℕ} (getD (replicate k 0) i 0) 0
+    zeros zero i = refl
+    zeros (suc k) zero = refl
+    zeros (suc k) (suc i) = zeros k i
+
+-- every other place holds what it held
+pub set-reads : (xs : List ℕ) (x y v : ℕ) → (x ≡ v → x < length xs) → getD (set xs x y) v 0 ≡ cond (eqb x v) y (getD xs v 0)
+set-reads xs x y v h = split (eqb x v)
+    (λ t.
+    let here = eqb→eq x v t in
+    rw (true-of (eqb x v) t) (subst (λ z. getD (set xs x y) z 0 ≡ y) here (getD-set-same xs x y 0 (h here))))
+    (λ t. rw (false-of (eqb x v) t) (getD-set-other xs x v y 0 (λ e. neqb x v t (sym e))))
+
+-- a mark 1 among marks
+pub set-bit : (marks : List ℕ) (i v : ℕ) (b : Bool) → v < length marks → getD marks v 0 ≡ bit b → getD (set marks i 1) v 0 ≡ bit (b || eqb i v)
+set-bit marks i v b h e = set-reads marks i 1 v (λ q. omega arith) ∙ ap (cond (eqb i v) 1) e ∙ by-case (eqb i v) b
+  where
+    by-case : (a b : Bool) → cond a 1 (bit b) ≡ bit (b || a)
+    by-case true true = refl
+    by-case true false = refl
+    by-case false true = refl
+    by-case false false = refl

@@ -5,3 +5,4 @@ pub mod Sets
 pub mod Pairs
 pub mod Bytes
 pub mod Stores
+pub mod Slices

@@ -1,7 +1,7 @@
 -- The order of pairs, and induction on numbers and on pairs. Assumes nothing.
-use mathlib.Core.Path.{_≡_, subst}
+use mathlib.Core.Path.{_≡_, _∙_, subst}
 use mathlib.Core.Bool.{Bool, not, _&&_, _||_}
-use Prim.Native.Nat.{ℕ, zero, suc, _≤_, _<_, zero-le}
+use Prim.Native.Nat.{ℕ, zero, suc, _+_, _≤_, _<_, zero-le}
 use native.Mathlib.Nat.{not-suc-le-zero}
 use native.Mathlib.Omega.{arith}
 use lib.Dec.{T, leb, ltb, eqb, leb→le, le→leb, nleb→lt, T-not, not-T, eqb→eq, eqb-refl}
@@ -29,6 +29,18 @@ pair-no k l i j t f g = split (leb k i)
     (λ d. absurd (T-not (pairLe k l i j) t (pair-eq k l i j (omega (arith, leb→le k i h, leb→le i k m)) (leb→le l j d)))) (nleb→lt l j)))
     (λ m. absurd (T-not (pairLe k l i j) t (pair-lt k l i j (nleb→lt i k m)))))
     (λ h. f (nleb→lt k i h))
+
+-- a pair below another is below every greater one, has no greater first component, and is not below the one before it
+pub pair-trans : (i j k l m n : ℕ) → T (pairLe i j k l) → T (pairLe k l m n) → T (pairLe i j m n)
+pair-trans i j k l m n t s = pair-e i j k l t
+    (λ h. pair-lt i j m n (pair-e k l m n s (λ g. omega arith) (λ e g. omega arith)))
+    (λ e h. pair-e k l m n s (λ g. pair-lt i j m n (omega arith)) (λ d g. pair-eq i j m n (e ∙ d) (omega arith)))
+
+pub pair-first : (k l i j : ℕ) → T (pairLe k l i j) → k ≤ i
+pair-first k l i j t = pair-e k l i j t (λ h. omega arith) (λ e h. omega arith)
+
+pub pair-before : (k l : ℕ) → T (pairLe k (l + 1) k l) → ⊥
+pair-before k l t = pair-e k (l + 1) k l t (λ h. omega arith) (λ e h. omega arith)
 
 -- at or above (k, 0): the first component is k or more
 pub pair-zero-i : (k i j : ℕ) → k ≤ i → T (pairLe k 0 i j)

@@ -10,10 +10,10 @@ use native.Mathlib.Omega.{arith}
 use lib.ListN.{length, take, getD}
 use lib.Seq.{take-suc}
 use lib.Dec.{T, leb, ltb, eqb, leb→le, le→leb, nleb→lt, T-not, not-T, eqb→eq, eqb-refl}
-use Rattle.finite.specs.Count.{bit, tabulate, below, count, In, Distinct}
+use Rattle.finite.specs.Count.{bit, below, count, In, Distinct, tabulate}
 use Rattle.finite.specs.Search.{any, all, member, firstFrom, first, largest, NoneBelow, rises, ascending}
 use Rattle.finite.proofs.Tests.{and-i, and-l, and-r, or-l, or-r, or-e, nand, split, same, true-of, false-of, of-true, of-false, eqb-of, neqb}
-use Rattle.finite.proofs.Count.{bit-yes, bit-no, in-at, at-in, in-below, count-some, count-cong, count-witness, count-strict, count-none}
+use Rattle.finite.proofs.Count.{bit-yes, bit-no, in-at, at-in, in-append, in-below, count-some, count-cong, count-witness, count-strict, count-none, distinct-below}
 
 -- ---- any and all, over a list
 
@@ -93,15 +93,6 @@ pub any-more : (p : ℕ → Bool) (l : List ℕ) (i : ℕ) → i < length l → 
 unfolding any
 any-more p l i h = rw (add-one, take-suc l i 0) (any-append p (take i l) (getD l i 0 ∷ []) ∙ ap (λ z. any p (take i l) || z) (or-false (p (getD l i 0))))
 
--- none below 0, and one more number below i + 1
-pub any-below-zero : (p : ℕ → Bool) → any p (below 0) ≡ false
-unfolding any below tabulate
-any-below-zero p = refl
-
-pub any-below-more : (p : ℕ → Bool) (i : ℕ) → any p (below (i + 1)) ≡ any p (below i) || p i
-unfolding any below tabulate
-any-below-more p i = rw add-one (any-append p (below i) (i ∷ []) ∙ ap (λ z. any p (below i) || z) (or-false (p i)))
-
 pub member-i : (w : ℕ) (l : List ℕ) → In w l → T (member w l)
 member-i w l i = any-i (eqb w) l w i (eqb-refl w)
 
@@ -113,6 +104,20 @@ member-yes w l i = true-of (member w l) (member-i w l i)
 
 pub member-no : (w : ℕ) (l : List ℕ) → (In w l → ⊥) → member w l ≡ false
 member-no w l f = false-of (member w l) (not-T (member w l) (λ t. f (member-e w l t)))
+
+-- past a number that is not w
+pub member-past : (w u : ℕ) (l : List ℕ) → (w ≡ u → ⊥) → member w (u ∷ l) ≡ member w l
+unfolding any
+member-past w u l d = ap (λ b. b || member w l) (false-of (eqb w u) (not-T (eqb w u) (λ t. d (eqb→eq w u t))))
+
+-- one number more stands at the end of the list, and all others as before
+pub member-snoc : (w : ℕ) (l : List ℕ) → T (member w (l ++ w ∷ []))
+member-snoc w l = member-i w (l ++ w ∷ []) (in-append l (w ∷ []) w .1 (inr (inl refl)))
+
+pub member-other : (v w : ℕ) (l : List ℕ) → (v ≡ w → ⊥) → member v (l ++ w ∷ []) ≡ member v l
+member-other v w l f = same (member v (l ++ w ∷ [])) (member v l)
+    (λ t. member-i v l (⊎-elim (λ i. i) (⊎-elim (λ e. absurd (f e)) (λ i. absurd i)) (in-append l (w ∷ []) v .0 (member-e v (l ++ w ∷ []) t))))
+    (λ t. member-i v (l ++ w ∷ []) (in-append l (w ∷ []) v .1 (inl (member-e v l t))))
 
 -- v stands in a list exactly when more of its numbers are at least v than at least v + 1
 pub member-count : (v : ℕ) (l : List ℕ) → member v l ≡ ltb (count (leb (v + 1)) l) (count (leb v) l)
@@ -138,6 +143,13 @@ count-one p q w (u ∷ us) d s t f = split (eqb w u)
     (λ e.
     let other = f u (λ same-vertex. neqb w u e (sym same-vertex)) in
     omega (arith, ap bit other, ap (λ b. bit (b || any (eqb w) us)) (false-of (eqb w u) e), count-one p q w us (d .1) s t f))
+
+-- q passes where p does, but not at x: one less below n
+pub count-less : (p q : ℕ → Bool) (x n : ℕ) → x < n → T (p x) → T (not (q x)) → ((w : ℕ) → (w ≡ x → ⊥) → p w ≡ q w) → count p (below n) ≡ suc (count q (below n))
+count-less p q x n h t s e =
+    let one = count-one p q x (below n) (distinct-below n) t s e in
+    let here = bit-yes (member x (below n)) (member-i x (below n) (in-below n x .1 h)) in
+    omega arith
 
 -- ---- first
 
@@ -317,3 +329,12 @@ ascending-distinct (x ∷ xs) t = (
       absurd (omega (arith, ascending-lt (x ∷ xs) t 0 (suc (r .0)) (omega arith) (omega arith), r .2)),
   ascending-distinct xs (ascending-tail x xs t),
 )
+
+-- none below 0, and one more number below i + 1
+pub any-below-zero : (p : ℕ → Bool) → any p (below 0) ≡ false
+unfolding any below tabulate
+any-below-zero p = refl
+
+pub any-below-more : (p : ℕ → Bool) (i : ℕ) → any p (below (i + 1)) ≡ any p (below i) || p i
+unfolding any below tabulate
+any-below-more p i = rw add-one (any-append p (below i) (i ∷ []) ∙ ap (λ z. any p (below i) || z) (or-false (p i)))

@@ -4,12 +4,14 @@ use mathlib.Core.Bool.{Bool, true, false, not, cond}
 use mathlib.Core.List.{List}
 use Prim.Native.Nat.{ℕ, zero, suc, _+_, _-_, _≤_, _<_}
 use native.Mathlib.Omega.{arith}
-use lib.ListN.{length, getD, length-take, length-drop}
+use lib.ListN.{length, drop, getD, length-take, length-drop}
+use lib.Seq.{getD-take, getD-drop}
 use lib.Dec.{T, leb, ltb, eqb}
 use borrow.Author.Tests.{lt-ltb, le-ltb, lt-leb, eq-eqb, ne-eqb, ltb-false, leb-false, eqb-true, eqb-false, not-false}
 use Rattle.finite.specs.Count.{In}
 use Rattle.finite.specs.Search.{member, first, NoneBelow}
 use Rattle.finite.specs.Search.{ascending as ascends}
+use Rattle.finite.proofs.Count.{in-at}
 use Rattle.finite.proofs.Tests.{of-true, true-of, false-of, of-false, not-or}
 use Rattle.finite.proofs.Search.{not-any, member-i, member-e, none-any, first-none, first-le, none-of, ascending-distinct}
 use Rattle.table.specs.Table.{vertices, neighbors, wrongEnd, wrongStep, badStart, beyond, looped, unsorted, unreturned, refused, refuse, checkOf, Framed, SoundTable}
@@ -47,6 +49,18 @@ pub neighbors-length : (s l : List ℕ) → Framed s l → (v : ℕ) → v < ver
 unfolding neighbors
 neighbors-length s l f v h = simp (length-take, length-drop) (omega (arith, f .step v h, f .within (v + 1) (omega arith)))
 
+-- the link at a place of u's part stands in u's neighbors
+pub link-in : (s l : List ℕ) → Framed s l → (u i : ℕ) → u < vertices s → getD s u 0 ≤ i → i < getD s (u + 1) 0 → In (getD l i 0) (neighbors s l u)
+unfolding neighbors
+link-in s l f u i h low high =
+    let a = getD s u 0 in
+    let b = getD s (u + 1) 0 in
+    let long = neighbors-length s l f u h in
+    let listed = in-at (neighbors s l u) (i - a) 0 (omega arith) in
+    let q : a + (i - a) ≡ i = omega arith in
+    let e = getD-take (b - a) (drop a l) (i - a) 0 (omega arith) ∙ getD-drop a l (i - a) 0 ∙ ap (λ k. getD l k 0) q in
+    subst (λ w. In w (neighbors s l u)) e listed
+
 module _ (s l : List ℕ) where
   -- without a link of n or more each neighbor is a vertex
   pub in-range : NoneBelow (beyond s l) (vertices s) → (v w : ℕ) → v < vertices s → In w (neighbors s l v) → w < vertices s
@@ -67,6 +81,10 @@ pub went-past : (k : ℕ) (p : ℕ → Bool) (n : ℕ) (rest : Checked) → refu
 went-past k p n rest e =
     let r = went-on (ltb (first p n) n) k (first p n) rest e in
     (none-of p n (omega (arith, first-le p n, ltb-false (first p n) n (r .0))), r .1)
+
+-- u does not list v
+abbrev pub missing : List ℕ → List ℕ → ℕ → ℕ → Bool
+missing s l v u = not (member v (neighbors s l u))
 
 -- what the check promises
 pub sound : (s l : List ℕ) → checkOf s l ≡ Sound → SoundTable s l

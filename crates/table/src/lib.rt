@@ -67,7 +67,7 @@ pub fn check(starts: &[u16], links: &[u16]) -> Checked
     if unsorted < n {
         return refused(7, unsorted);
     }
-    let alone = rules::first_unreturned(starts, links);
+    let alone = rules::lowest_unreturned(starts, links);
     if alone < n {
         return refused(8, alone);
     }

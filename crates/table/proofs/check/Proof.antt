@@ -138,11 +138,11 @@ returns-7 c =
     let at = c .before in
     c .refused7 .ensures ∙ sym (loopless (at .before .before) ∙ hit 7 _ _ _ (at .before .first-breaking3 .ensures) (at .if7 .taken))
 
-first-unreturned-requires : tie.Need-first-unreturned-requires
-first-unreturned-requires c κs =
+lowest-unreturned-requires : tie.Need-lowest-unreturned-requires
+lowest-unreturned-requires c κs =
     let range = c .before .before .before .before in (
       frame (range .before .before),
-      (nothing _ _ (range .before .first-breaking .ensures) (range .if5 .left), nothing _ _ (c .before .first-breaking3 .ensures) (c .if7 .left)),
+      (nothing _ _ (range .before .first-breaking .ensures) (range .if5 .left), (nothing _ _ (c .before .first-breaking3 .ensures) (c .if7 .left), omega arith)),
     )
 
 refused-requires-8 : tie.Need-refused-requires-8
@@ -151,10 +151,10 @@ refused-requires-8 c κs = search needs
 returns-8 : tie.Need-returns-8
 returns-8 c =
     let at = c .before in
-    c .refused8 .ensures ∙ sym (ordered (at .before .before) ∙ hit 8 _ _ _ (at .before .first-unreturned .ensures) (at .if8 .taken))
+    c .refused8 .ensures ∙ sym (ordered (at .before .before) ∙ hit 8 _ _ _ (at .before .lowest-unreturned .ensures) (at .if8 .taken))
 
 returns-9 : tie.Need-returns-9
-returns-9 c = sym (ordered (c .before .before) ∙ pass 8 _ _ _ (nothing _ _ (c .before .first-unreturned .ensures) (c .if8 .left)))
+returns-9 c = sym (ordered (c .before .before) ∙ pass 8 _ _ _ (nothing _ _ (c .before .lowest-unreturned .ensures) (c .if8 .left)))
 
 pub check-spec : {M : Type 1} → statement M
 check-spec =
@@ -179,7 +179,7 @@ check-spec =
     first-breaking-requires-3
     refused-requires-7
     returns-7
-    first-unreturned-requires
+    lowest-unreturned-requires
     refused-requires-8
     returns-8
     returns-9)

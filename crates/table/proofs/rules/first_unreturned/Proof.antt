@@ -1,8 +1,7 @@
 -- `rules::first_unreturned` meets its contract. The invariants: every vertex below v, and v by its neighbors before place j, is returned. Assumes nothing.
 use mathlib.Core.Path.{_≡_, sym, ap, _∙_, subst}
-use mathlib.Core.Bool.{Bool, not}
-use mathlib.Core.List.{List}
-use Prim.Native.Nat.{ℕ, _-_, _≤_, _<_}
+use mathlib.Core.Bool.{not}
+use Prim.Native.Nat.{_-_, _≤_, _<_}
 use native.Mathlib.Omega.{arith}
 use lib.ListN.{length, getD}
 use borrow.Author.Count.{below-more}
@@ -13,13 +12,9 @@ use Rattle.finite.proofs.Count.{in-at}
 use Rattle.finite.proofs.Search.{any-at, any-none, first-hit, first-none}
 use Rattle.table.specs.Table.{vertices, unreturned}
 use Rattle.table.specs.Table.{neighbors as neighborsOf}
-use Rattle.table.proofs.Laws.{in-range, sorted}
+use Rattle.table.proofs.Laws.{in-range, sorted, missing}
 use Rattle.table.proofs.rules.first_unreturned.Statement.{statement}
 use Rattle.table.proofs.rules.first_unreturned.Tie as tie
-
--- u does not list v
-abbrev missing : List ℕ → List ℕ → ℕ → ℕ → Bool
-missing s l v u = not (member v (neighborsOf s l u))
 
 abbrev Inv-loop : tie.InvT-loop
 Inv-loop starts links n v part j₀ j = (j ≤ length part) × NoneBelow (λ i. missing starts links v (getD part i 0)) j

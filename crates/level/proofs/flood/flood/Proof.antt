@@ -1,0 +1,91 @@
+-- `flood::flood` meets its contract. The invariant: every component with a vertex below `start` is numbered in full. Assumes nothing.
+use mathlib.Core.Path.{_≡_}
+use mathlib.Core.Logic.{⊎-elim}
+use Prim.Native.Nat.{ℕ, _-_, _≤_}
+use native.Mathlib.Omega.{arith}
+use lib.ListN.{getD-replicate, length-replicate}
+use borrow.Author.Tests.{eqb-true}
+use borrow.Author.Needs.{needs}
+use Rattle.finite.proofs.Tests.{of-false}
+use Rattle.table.specs.Table.{vertices}
+use Rattle.level.specs.Input.{graphOf, anchoredBy}
+use Rattle.level.specs.Flooding.{blank, Flooding}
+use Rattle.level.proofs.Laws.{simple, free-byte}
+use Rattle.level.proofs.Flooding.{begin, pass, finish}
+use Rattle.level.proofs.flood.flood.Statement.{statement}
+use Rattle.level.proofs.flood.flood.Tie as tie
+
+abbrev Inv-loop : tie.InvT-loop
+Inv-loop starts links anchored level component₀ n queue₀ tail₀ start₀ component queue tail start = (start ≤ vertices starts) × Flooding (graphOf starts links) (anchoredBy anchored) start tail component queue tail
+
+abbrev μ-loop : tie.MeasureT-loop
+μ-loop starts links anchored level component₀ n queue₀ tail₀ start₀ component queue tail start = vertices starts - start
+
+sub-n : tie.Need-sub-n Inv-loop μ-loop
+sub-n c = search needs
+
+loop-holds : tie.Need-loop-holds Inv-loop μ-loop
+loop-holds c =
+    let table = c .before .before .before .before .before .pre .0 .table in
+    let labels = length-replicate {A = ℕ} 1024 65535 in
+    let queue = length-replicate {A = ℕ} 1024 0 in
+    (omega arith, begin _ _ (omega (arith, table .small)) (omega (arith, table .small)) (λ v b. getD-replicate {A = ℕ} 1024 v 65535 0 (omega (arith, table .small))))
+
+shared-slice-read-if1 : tie.Need-shared-slice-read-if1 Inv-loop μ-loop
+shared-slice-read-if1 c = search needs
+
+mul-if2 : tie.Need-mul-if2 Inv-loop μ-loop
+mul-if2 c = search needs
+
+element-copy-out-if2 : tie.Need-element-copy-out-if2 Inv-loop μ-loop
+element-copy-out-if2 c = search needs
+
+spread-requires : tie.Need-spread-requires Inv-loop μ-loop
+spread-requires c κs =
+    let at = c .before .before .before .before .before .before .before in
+    let given = at .before .before .before .before .before .before .pre in
+    (record { admitted = given .0; long = given .1 .0; levels = given .1 .1 }, ((omega arith, c .before .before .before .before .if1 .taken, eqb-true _ _ (c .before .before .if2 .taken)), at .loop .inv .1))
+
+add-start : tie.Need-add-start Inv-loop μ-loop
+add-start c = search needs
+
+loop-less : tie.Need-loop-less Inv-loop μ-loop
+loop-less c = search needs
+
+loop-again : tie.Need-loop-again Inv-loop μ-loop
+loop-again c =
+    let at = c .before .before .before in
+    let admitted = at .before .before .before .before .before .before .pre .0 in
+    ⊎-elim
+    (λ way. rw (way .6, way .7, way .8) (omega arith, way .5 .ensures))
+    (λ way.
+    let reason = ⊎-elim
+    (λ side. λ free. of-false (blank (at .loop .component) (at .loop .start)) (side .2 .left))
+    (λ side. λ free. absurd (side .left (free-byte _ _ _ admitted (at .loop .start) (omega arith) free)))
+    (way .0 .came) in
+    rw (way .1, way .2, way .3) (omega arith, pass (at .loop .inv .1) reason))
+    (c .if1 .came)
+
+returns : tie.Need-returns Inv-loop μ-loop
+returns c =
+    let at = c .before in
+    let start = at .before .before .before .before .before .before in
+    let done : at .loop .start ≡ vertices (start .args .starts .now) = omega arith in
+    finish (simple _ _ (start .pre .0 .table)) (rw done at (at .loop .inv .1))
+
+pub flood-spec : {M : Type 1} → statement M
+flood-spec =
+    tie.close
+    (tie.spec
+    Inv-loop
+    μ-loop
+    sub-n
+    loop-holds
+    shared-slice-read-if1
+    mul-if2
+    element-copy-out-if2
+    spread-requires
+    add-start
+    loop-less
+    loop-again
+    returns)

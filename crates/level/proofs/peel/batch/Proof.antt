@@ -1,0 +1,101 @@
+-- `peel::batch` meets its contract. The invariant: the batch waits from place i on, and the next batch stands after it. Assumes nothing.
+use mathlib.Core.Path.{_≡_}
+use mathlib.Core.List.{[]}
+use Prim.Native.Nat.{_-_, _≤_, _<_}
+use native.Mathlib.Omega.{arith}
+use lib.ListN.{getD}
+use lib.Seq.{slice, slice-empty}
+use Rattle.table.specs.Table.{vertices}
+use Rattle.level.specs.Input.{graphOf}
+use Rattle.level.specs.Peeling.{Peels, Sized, Long}
+use Rattle.level.proofs.Steps.{remove-bounds, remove-can, remove}
+use Rattle.level.proofs.peel.batch.Statement.{statement}
+use Rattle.level.proofs.peel.batch.Tie as tie
+use borrow.Author.Needs.{needs}
+
+abbrev Inv-loop : tie.InvT-loop
+Inv-loop starts links anchored head end k turn degree₀ level₀ layer₀ queue₀ tail₀ i₀ degree level layer queue tail i = (i ≤ end) × (end ≤ tail) × Long degree level layer queue × Peels (graphOf starts links) anchored degree level layer k turn (slice i end queue) (slice end tail queue) [] (vertices starts) tail
+
+abbrev μ-loop : tie.MeasureT-loop
+μ-loop starts links anchored head end k turn degree₀ level₀ layer₀ queue₀ tail₀ i₀ degree level layer queue tail i = end - i
+
+size : (c : tie.Start Inv-loop μ-loop) → Sized (graphOf (c .args .starts .now) (c .args .links .now)) (c .args .anchored .now)
+size c = (c .pre .0 .long, c .pre .0 .table .small)
+
+-- the place is within the queue, and a vertex stands there
+bounds : (c : tie.In-loop Inv-loop μ-loop) → (c .before .before .before .before .before .args .end ≤ 1024) × (getD (c .before .loop .queue) (c .before .loop .i) 0 < vertices (c .before .before .before .before .before .args .starts .now))
+bounds c =
+    let start = c .before .before .before .before .before in
+    let inv = c .before .loop .inv in
+    remove-bounds (graphOf (start .args .starts .now) (start .args .links .now)) (start .args .anchored .now) (size start) (inv .2) (c .loop-test .taken) (inv .1) (inv .3)
+
+loop-holds : tie.Need-loop-holds Inv-loop μ-loop
+loop-holds c =
+    let p = c .before .before .before .pre in
+    (p .1 .0 .0, omega arith, p .1 .1 .0, rw (slice-empty (c .before .before .before .args .end) (c .before .before .before .args .queue .now)) (p .1 .1 .1))
+
+mul-neighbors : tie.Need-mul-neighbors Inv-loop μ-loop
+mul-neighbors c = omega (arith, bounds c, c .loop-test .taken)
+
+element-copy-out-neighbors : tie.Need-element-copy-out-neighbors Inv-loop μ-loop
+element-copy-out-neighbors c = omega (arith, bounds c, c .loop-test .taken)
+
+cast-neighbors : tie.Need-cast-neighbors Inv-loop μ-loop
+cast-neighbors c = omega (arith, bounds (c .before), c .before .before .before .before .before .before .pre .0 .table .small)
+
+neighbors-requires : tie.Need-neighbors-requires Inv-loop μ-loop
+neighbors-requires c κs = (c .before .before .before .before .before .before .pre .0 .table .framed, bounds (c .before) .1)
+
+lower-requires : tie.Need-lower-requires Inv-loop μ-loop
+lower-requires c κs =
+    let inside = c .before .before .before .before .before .before in
+    let start = inside .before .before .before .before .before in
+    let inv = inside .before .loop .inv in (
+      start .pre .1 .0 .1,
+      (
+        inv .2,
+        rw (c .before .before .before .before .neighbors .ensures)
+            (remove-can (graphOf (start .args .starts .now) (start .args .links .now)) (start .args .anchored .now) (size start) (inv .2) (inside .loop-test .taken) (inv .1) (inv .3)),
+      ),
+    )
+
+add-i : tie.Need-add-i Inv-loop μ-loop
+add-i c = omega (arith, bounds (c .before .before .before .before .before .before .before), c .before .before .before .before .before .before .before .loop-test .taken)
+
+loop-less : tie.Need-loop-less Inv-loop μ-loop
+loop-less c = search needs
+
+loop-again : tie.Need-loop-again Inv-loop μ-loop
+loop-again c =
+    let inside = c .before .before .before .before .before .before .before in
+    let start = inside .before .before .before .before .before in
+    let inv = inside .before .loop .inv in
+    let struck = rw (c .before .before .before .before .before .neighbors .ensures) at (c .lower .ensures) in (
+      omega (arith, inside .loop-test .taken),
+      omega (arith, inv .1, c .lower .ensures .grows),
+      c .lower .ensures .long,
+      remove (graphOf (start .args .starts .now) (start .args .links .now)) (start .args .anchored .now) (size start) (inv .2) (inside .loop-test .taken) (inv .1) (inv .3) struck,
+    )
+
+returns : tie.Need-returns Inv-loop μ-loop
+returns c =
+    let loop = c .before .loop in
+    let done : loop .i ≡ c .before .before .before .before .before .args .end = omega arith in
+    (loop .inv .1, loop .inv .2, rw (done, slice-empty (c .before .before .before .before .before .args .end) (loop .queue)) at (loop .inv .3))
+
+pub batch-spec : {M : Type 1} → statement M
+batch-spec =
+    tie.close
+    (tie.spec
+    Inv-loop
+    μ-loop
+    loop-holds
+    mul-neighbors
+    element-copy-out-neighbors
+    cast-neighbors
+    neighbors-requires
+    lower-requires
+    add-i
+    loop-less
+    loop-again
+    returns)

@@ -1,0 +1,32 @@
+-- `sheet::check_sheet` meets its contract. Assumes nothing.
+use mathlib.Core.Path.{sym, _∙_}
+use borrow.Author.Needs.{needs}
+use Rattle.level.specs.SheetCheck.{checkSheetOf}
+use Rattle.level.proofs.Laws.{admitted}
+use Rattle.level.proofs.sheet.check_sheet.Statement.{statement}
+use Rattle.level.proofs.sheet.check_sheet.Tie as tie
+
+admit-requires : tie.Need-admit-requires
+admit-requires c κs = search needs
+
+enum-known-admitted : tie.Need-enum-known-admitted
+enum-known-admitted c = search needs
+
+enum-told : tie.Need-enum-told
+enum-told c = search needs
+
+test-sheet-requires : tie.Need-test-sheet-requires
+test-sheet-requires c κs = admitted _ _ _ (sym (c .before .before .admit .ensures) ∙ c .enum-told .given .1)
+
+returns : tie.Need-returns
+unfolding checkSheetOf
+returns c = let refused = sym (c .before .before .before .admit .ensures) ∙ c .before .admitted .given .1 in rw (checkSheetOf, refused)
+
+returns-2 : tie.Need-returns-2
+unfolding checkSheetOf
+returns-2 c = let sound = sym (c .before .before .before .admit .ensures) ∙ c .before .enum-told .given .1 in rw (checkSheetOf, sound) (c .test-sheet .ensures)
+
+pub check-sheet-spec : {M : Type 1} → statement M
+check-sheet-spec =
+    tie.close
+    (tie.spec admit-requires enum-known-admitted enum-told test-sheet-requires returns returns-2)

@@ -1,0 +1,63 @@
+-- `sheet::test_sheet` meets its contract: the local test accepts exactly the defined sheet. Assumes nothing.
+use mathlib.Core.Path.{_≡_, sym, ap, _∙_}
+use mathlib.Core.Bool.{cond}
+use native.Mathlib.Omega.{arith}
+use borrow.Author.Needs.{needs}
+use Rattle.table.specs.Table.{refused}
+use Rattle.table.specs.declared.Checked.the-variants.{Sound}
+use Rattle.level.specs.SheetCheck.{sheetOf}
+use Rattle.level.proofs.Laws.{wrong-levels, wrong-layers, tested}
+use Rattle.level.proofs.sheet.test_sheet.Statement.{statement}
+use Rattle.level.proofs.sheet.test_sheet.Tie as tie
+
+abbrev entry : tie.Else2 → tie.Start
+entry c = c .before .before .before .before .before .before .before
+
+-- of a sheet of the right lengths the local test decides
+answer : (c : tie.After-is-local) →
+    let args = entry (c .before) .args in
+    sheetOf (args .starts .now) (args .links .now) (args .anchored .now) (args .levels .now) (args .layers .now) ≡ cond (c .is-local .result) Sound (refused 14 0)
+answer c =
+    tested _ _ _ _ _ (entry (c .before) .pre .table) (c .before .before .if1 .left) (c .before .if2 .left)
+    ∙ ap (λ b. cond b Sound (refused 14 0)) (sym (c .is-local .ensures))
+
+sub-n : tie.Need-sub-n
+sub-n c = let some = c .before .before .before .before .before .pre .table .framed .some in omega arith
+
+refused-requires : tie.Need-refused-requires
+refused-requires c κs = search needs
+
+returns : tie.Need-returns
+returns c = c .refused .ensures ∙ sym (wrong-levels _ _ _ _ _ (c .before .if1 .taken))
+
+refused-requires-2 : tie.Need-refused-requires-2
+refused-requires-2 c κs = search needs
+
+returns-2 : tie.Need-returns-2
+returns-2 c = c .refused2 .ensures ∙ sym (wrong-layers _ _ _ _ _ (c .before .before .if1 .left) (c .before .if2 .taken))
+
+is-local-requires : tie.Need-is-local-requires
+is-local-requires c κs = (entry c .pre, (c .before .if1 .left, c .if2 .left))
+
+returns-3 : tie.Need-returns-3
+returns-3 c = sym (answer (c .before) ∙ ap (λ b. cond b Sound (refused 14 0)) (c .if3 .taken))
+
+refused-requires-3 : tie.Need-refused-requires-3
+refused-requires-3 c κs = search needs
+
+returns-4 : tie.Need-returns-4
+returns-4 c = c .refused3 .ensures ∙ sym (answer (c .before .before) ∙ ap (λ b. cond b Sound (refused 14 0)) (c .before .if3 .left))
+
+pub test-sheet-spec : {M : Type 1} → statement M
+test-sheet-spec =
+    tie.close
+    (tie.spec
+    sub-n
+    refused-requires
+    returns
+    refused-requires-2
+    returns-2
+    is-local-requires
+    returns-3
+    refused-requires-3
+    returns-4)

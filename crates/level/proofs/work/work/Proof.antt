@@ -1,0 +1,59 @@
+-- `work::work` meets its contract: a refusal is handed on, and without one the sheet is written. Assumes nothing.
+use mathlib.Core.Path.{_≡_, refl, sym, _∙_}
+use lib.ListN.{length}
+use Rattle.table.specs.declared.Checked.the-variants.{Sound}
+use Rattle.level.specs.Answers.{workOf}
+use Rattle.level.proofs.Answers.{work-sound}
+use borrow.Author.Needs.{needs}
+use Rattle.level.proofs.work.work.Statement.{statement}
+use Rattle.level.proofs.work.work.Tie as tie
+
+told : (c : tie.After-enum-told) → let args = c .before .before .before .before .before .before .before .before .before .args in
+    workOf (args .starts .now) (args .links .now) (args .anchored .now) (length (args .levels .now)) (length (args .layers .now)) (length (args .components .now)) ≡ Sound
+told c = sym (c .before .before .admit-slices .ensures) ∙ c .enum-told .given .1
+
+abbrev called : tie.After-slice-known6 → tie.After-write-sheet
+called c = c .before .before .before .before .before .before
+
+admit-slices-requires : tie.Need-admit-slices-requires
+admit-slices-requires c κs = search needs
+
+enum-known-admitted : tie.Need-enum-known-admitted
+enum-known-admitted c = search needs
+
+enum-told : tie.Need-enum-told
+enum-told c = search needs
+
+write-sheet-requires : tie.Need-write-sheet-requires
+write-sheet-requires c κs =
+    let promised = work-sound _ _ _ _ _ _ (told (c .before .before .before)) in
+    (promised .0, (promised .1, (promised .2, promised .3)))
+
+returns : tie.Need-returns
+returns c = (sym (sym (c .before .before .before .admit-slices .ensures) ∙ c .before .admitted .given .1), (refl, (refl, refl)))
+
+same-length : tie.Need-same-length
+same-length c = called c .write-sheet .kept .1 .1 .1 .0
+
+same-length-2 : tie.Need-same-length-2
+same-length-2 c = called c .write-sheet .kept .1 .1 .1 .1 .0
+
+same-length-3 : tie.Need-same-length-3
+same-length-3 c = called c .write-sheet .kept .1 .1 .1 .1 .1 .0
+
+returns-2 : tie.Need-returns-2
+returns-2 c = (sym (told (called c .before .before .before .before)), called c .write-sheet .ensures)
+
+pub work-spec : {M : Type 1} → statement M
+work-spec =
+    tie.close
+    (tie.spec
+    admit-slices-requires
+    enum-known-admitted
+    enum-told
+    write-sheet-requires
+    returns
+    same-length
+    same-length-2
+    same-length-3
+    returns-2)

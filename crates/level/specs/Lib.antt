@@ -1,0 +1,8 @@
+pub mod Input
+pub mod Arrays
+pub mod SheetCheck
+pub mod Peeling
+pub mod Flooding
+pub mod Searching
+pub mod Answers
+pub mod Entries

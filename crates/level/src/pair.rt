@@ -1,0 +1,41 @@
+// Levels and layers are two kinds of counts, ordered only as a pair, level first.
+ghost use mathlib.Core.Path.{_≡_};
+ghost use Rattle.finite.specs.Pairs.{pairLe};
+
+pub struct Level(pub u16);
+
+pub struct Layer(pub u16);
+
+pub struct Pair {
+    pub level: Level,
+    pub layer: Layer,
+}
+
+impl Pair {
+    pub fn new(level: u16, layer: u16) -> Pair
+        ensures level { λ r. ⌜ r .level .0 ≡ level ⌝ }
+        ensures layer { λ r. ⌜ r .layer .0 ≡ layer ⌝ }
+    {
+        Pair {
+            level: Level(level),
+            layer: Layer(layer),
+        }
+    }
+
+    // Whether this pair is at or above the other. An anchored vertex has level 65,535, so it stands above every pair of a sheet.
+    pub fn at_or_above(self, other: Pair) -> bool
+        ensures { λ r. ⌜ r ≡ pairLe (other .level .0) (other .layer .0) (self .level .0) (self .layer .0) ⌝ }
+    {
+        let level = self.level.0;
+        let floor = other.level.0;
+        if floor < level {
+            return true;
+        }
+        if floor == level {
+            let layer = self.layer.0;
+            let least = other.layer.0;
+            return least <= layer;
+        }
+        false
+    }
+}

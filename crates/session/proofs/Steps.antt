@@ -1,0 +1,296 @@
+-- A step over lists and numbers: the bytes with one more anchor, the rows it works afresh, and the plain session that a record stands for.
+-- Assumes nothing.
+use mathlib.Core.Path.{_≡_, refl, sym, ap, _∙_, subst, fun-ext}
+use mathlib.Core.Logic.{⊎-elim}
+use mathlib.Core.Bool.{Bool, true, false, not, cond, _&&_, _||_, or-true, or-false, and-false}
+use mathlib.Core.List.{List}
+use Prim.Native.Nat.{ℕ, _+_, _≤_, _<_, zero-le}
+use native.Mathlib.Nat.{eq-or-lt-of-le}
+use native.Mathlib.Omega.{arith}
+use lib.ListN.{length, getD, set, length-set}
+use lib.Dec.{T, ltb, eqb, eqb→eq, ltb→lt, nltb→le}
+use borrow.Author.Tests.{lt-ltb, le-ltb, eq-eqb, ne-eqb}
+use Rattle.finite.specs.Count.{bit, count, below}
+use Rattle.finite.proofs.Tests.{split, true-of, false-of, of-true, and-l, neqb}
+use Rattle.finite.proofs.Count.{set-reads, length-below, count-length, count-below-zero, count-below-more}
+use Rattle.table.specs.Table.{vertices}
+use Rattle.anchored.specs.Graph.{Graph}
+use Rattle.anchored.specs.Followers.{adding, follows, followers, followerCount}
+use Rattle.anchored.specs.Step.{recomputed}
+use Rattle.anchored.specs.Session.{Plain, statusOf, rowOf, turn, after}
+use Rattle.anchored.proofs.Step.{kept-followers}
+use Rattle.anchored.proofs.Session.{status-free, turn-accepted, turn-refused, row-accepted, after-more, renewed-fresh}
+use Rattle.level.specs.Input.{graphOf, anchoredBy, Admitted}
+use Rattle.level.specs.Arrays.{Holds}
+use Rattle.level.proofs.Laws.{simple}
+use Rattle.session.specs.Record.{Sheet, Right, plainOf, rowAs}
+use Rattle.session.specs.Rows.{Renewed, Redone, Stands}
+
+-- ---- bytes
+
+-- a byte 1 at place x anchors x too
+pub anchored-set : (a : List ℕ) (x : ℕ) → x < length a → anchoredBy (set a x 1) ≡ adding (anchoredBy a) x
+anchored-set a x h = fun-ext (λ v. ap (λ z. eqb z 1) (set-reads a x 1 v (λ e. h)) ∙ by-case (eqb x v) (getD a v 0))
+  where
+    by-case : (b : Bool) (m : ℕ) → eqb (cond b 1 m) 1 ≡ eqb m 1 || b
+    by-case true m = sym (or-true (eqb m 1))
+    by-case false m = sym (or-false (eqb m 1))
+
+-- and the bytes are admitted as before
+pub admitted-set : (s l a : List ℕ) (x : ℕ) → Admitted s l a → x < vertices s → Admitted s l (set a x 1)
+admitted-set s l a x h b = record {
+  table = h .table;
+  long = omega (arith, length-set a x 1, h .long);
+  bytes = λ v k. rw (set-reads a x 1 v (λ e. omega (arith, h .long))) (split (eqb x v)
+      (λ t. rw (true-of (eqb x v) t) (omega arith))
+      (λ t. rw (false-of (eqb x v) t) (h .bytes v k)));
+}
+
+-- bytes that read alike anchor alike, and are admitted alike
+pub anchored-same : (a b : List ℕ) → ((v : ℕ) → getD b v 0 ≡ getD a v 0) → anchoredBy b ≡ anchoredBy a
+anchored-same a b e = fun-ext (λ v. ap (λ z. eqb z 1) (e v))
+
+pub admitted-same : (s l a b : List ℕ) → ((v : ℕ) → getD b v 0 ≡ getD a v 0) → vertices s ≤ length b → Admitted s l a → Admitted s l b
+admitted-same s l a b e long h = record { table = h .table; long = long; bytes = λ v k. rw (e v) (h .bytes v k) }
+
+-- ---- rows
+
+-- one further, only u itself is new
+below-other : (u v : ℕ) → (u ≡ v → ⊥) → ltb v (u + 1) ≡ ltb v u
+below-other u v n = split (ltb v u)
+    (λ t. rw (true-of (ltb v u) t) (lt-ltb v (u + 1) (omega (arith, ltb→lt v u t))))
+    (λ t. rw (false-of (ltb v u) t) (le-ltb v (u + 1) (⊎-elim (λ e. absurd (n e)) (λ l. omega arith) (eq-or-lt-of-le (nltb→le v u t)))))
+
+module _ (p : ℕ → Bool) (f : ℕ → ℕ) (old : List ℕ) where
+  renewed-begin : Renewed p f old old 0
+  renewed-begin v = rw (le-ltb v 0 zero-le)
+
+  -- a row that does not pass is left as it is
+  renewed-skip : (new : List ℕ) (u : ℕ) → p u ≡ false → Renewed p f old new u → Renewed p f old new (u + 1)
+  renewed-skip new u e r v = r v ∙ ap (λ b. cond b (f v) (getD old v 0)) (sym (split (eqb u v)
+      (λ t. let q : p v ≡ false = ap p (sym (eqb→eq u v t)) ∙ e in rw q (and-false (ltb v (u + 1)) ∙ sym (and-false (ltb v u))))
+      (λ t. ap (λ b. b && p v) (below-other u v (neqb u v t)))))
+
+  -- one that passes gets its value
+  renewed-more : (new : List ℕ) (u : ℕ) → p u ≡ true → u < length new → Renewed p f old new u → Renewed p f old (set new u (f u)) (u + 1)
+  renewed-more new u e h r v = set-reads new u (f u) v (λ q. h) ∙ split (eqb u v)
+      (λ t. subst (λ z. cond (eqb u z) (f u) (getD new z 0) ≡ cond (ltb z (u + 1) && p z) (f z) (getD old z 0)) (eqb→eq u v t)
+      (rw (eq-eqb u u refl, lt-ltb u (u + 1) (omega arith), e)))
+      (λ t. rw (false-of (eqb u v) t, below-other u v (neqb u v t)) (r v))
+
+  renewed-all : (new : List ℕ) (n : ℕ) → Renewed p f old new n → (v : ℕ) → v < n → getD new v 0 ≡ cond (p v) (f v) (getD old v 0)
+  renewed-all new n r v h = rw (lt-ltb v n h) at (r v)
+
+module _ (s l a b : List ℕ) (position : ℕ) (fol st : List ℕ) where
+  abbrev again : ℕ → Bool
+  again = recomputed (graphOf s l) (anchoredBy a) (anchoredBy b)
+
+  abbrev fresh : ℕ → ℕ
+  fresh = followers (graphOf s l) (anchoredBy b)
+
+  -- before the first row
+  pub redone-begin : Redone s l a b position fol st fol st 0 0
+  redone-begin = record {
+    counts = renewed-begin again fresh fol;
+    stamps = renewed-begin again (λ v. position) st;
+    counts-long = refl;
+    stamps-long = refl;
+    number = sym (count-below-zero again);
+  }
+
+  module _ (folNow stNow : List ℕ) (redone u : ℕ) (r : Redone s l a b position fol st folNow stNow redone u) where
+    pub redone-le : redone ≤ u
+    redone-le = omega (arith, r .number, count-length again (below u), length-below u)
+
+    -- a row that is not recomputed
+    pub redone-skip : again u ≡ false → Redone s l a b position fol st folNow stNow redone (u + 1)
+    redone-skip e = record {
+      counts = renewed-skip again fresh fol folNow u e (r .counts);
+      stamps = renewed-skip again (λ v. position) st stNow u e (r .stamps);
+      counts-long = r .counts-long;
+      stamps-long = r .stamps-long;
+      number = omega (arith, r .number, count-below-more again u, ap bit e);
+    }
+
+    -- a recomputed row gets its fresh count and the stamp
+    pub redone-more : (anew : ℕ) → anew ≡ followers (graphOf s l) (anchoredBy b) u → again u ≡ true → u < length fol → u < length st
+        → Redone s l a b position fol st (set folNow u anew) (set stNow u position) (redone + 1) (u + 1)
+    redone-more anew q e hf hs = record {
+      counts = subst (λ z. Renewed again fresh fol (set folNow u z) (u + 1)) (sym q) (renewed-more again fresh fol folNow u e (omega (arith, r .counts-long)) (r .counts));
+      stamps = renewed-more again (λ v. position) st stNow u e (omega (arith, r .stamps-long)) (r .stamps);
+      counts-long = length-set folNow u anew ∙ r .counts-long;
+      stamps-long = length-set stNow u position ∙ r .stamps-long;
+      number = omega (arith, r .number, count-below-more again u, ap bit e);
+    }
+
+-- ---- the step
+
+module _ (s l a lev lay comps fol st : List ℕ) (right : Right s l a lev lay comps fol) (x : ℕ) (bx : x < vertices s) (free : T (not (anchoredBy a x)))
+    (position : ℕ) (folNow stNow : List ℕ) (redone : ℕ) (r : Redone s l a (set a x 1) position fol st folNow stNow redone (vertices s)) where
+  abbrev G : Graph
+  G = graphOf s l
+
+  abbrev A : ℕ → Bool
+  A = anchoredBy a
+
+  abbrev S : Plain
+  S = plainOf a st
+
+  accepted : statusOf G A x ≡ 0
+  accepted = status-free G A x .1 (bx, free)
+
+  bytes-after : anchoredBy (set a x 1) ≡ adding A x
+  bytes-after = anchored-set a x (omega (arith, right .sheet .admitted .long))
+
+  fresh-counts : Renewed (recomputed G A (adding A x)) (followers G (adding A x)) fol folNow (vertices s)
+      → Holds (set folNow x 65535) (vertices s) (followerCount G (adding A x))
+  unfolding followerCount
+  fresh-counts counts v h =
+      set-reads folNow x 65535 v (λ e. omega (arith, r .counts-long, right .counts-long))
+      ∙ ap (cond (eqb x v) 65535) (renewed-all (recomputed G A (adding A x)) (followers G (adding A x)) fol folNow (vertices s) counts v h)
+      ∙ ap (λ z. cond (eqb x v) 65535 (cond (recomputed G A (adding A x) v) (followers G (adding A x) v) z)) (right .counts v h)
+      ∙ renewed-fresh G A x (followers G) v (λ t k. kept-followers G (simple s l (right .sheet .admitted .table)) A x v h t k)
+
+  -- with 65,535 put at x the follower counts are right
+  counts-after : Holds (set folNow x 65535) (vertices s) (followerCount G (anchoredBy (set a x 1)))
+  counts-after = subst (λ B. Renewed (recomputed G A B) (followers G B) fol folNow (vertices s) → Holds (set folNow x 65535) (vertices s) (followerCount G B))
+      (sym bytes-after) fresh-counts (r .counts)
+
+  pub right-after : (levNow layNow compsNow : List ℕ) → Sheet s l (set a x 1) levNow layNow compsNow → Right s l (set a x 1) levNow layNow compsNow (set folNow x 65535)
+  right-after levNow layNow compsNow sheet = record {
+    sheet = sheet;
+    counts = counts-after;
+    counts-long = omega (arith, length-set folNow x 65535, r .counts-long, right .counts-long);
+  }
+
+  fresh-stamps : vertices s ≤ length st → Renewed (recomputed G A (adding A x)) (λ v. position) st stNow (vertices s)
+      → Holds (set stNow x position) (vertices s) (turn G position x S .stamps)
+  fresh-stamps long stamps v h =
+      set-reads stNow x position v (λ e. omega (arith, r .stamps-long))
+      ∙ ap (cond (eqb x v) position) (renewed-all (recomputed G A (adding A x)) (λ v. position) st stNow (vertices s) stamps v h)
+      ∙ either (eqb x v) (recomputed G A (adding A x) v)
+      ∙ ap (λ P. P .stamps v) (sym (turn-accepted G S x position accepted))
+    where
+      either : (b c : Bool) → cond b position (cond c position (getD st v 0)) ≡ cond (b || c) position (getD st v 0)
+      either true c = refl
+      either false c = refl
+
+  -- with the position put at x the bytes and the stamps stand for the plain session's turn
+  pub stands-after : vertices s ≤ length st → Stands (vertices s) (set a x 1) (set stNow x position) (turn G position x S)
+  stands-after long = record {
+    anchors = bytes-after ∙ ap (λ P. P .anchors) (sym (turn-accepted G S x position accepted));
+    stamps = subst (λ B. Renewed (recomputed G A B) (λ v. position) st stNow (vertices s) → Holds (set stNow x position) (vertices s) (turn G position x S .stamps))
+        (sym bytes-after) (fresh-stamps long) (r .stamps);
+    stamps-long = omega (arith, length-set stNow x position, r .stamps-long);
+  }
+
+  -- and the numbers are those of the request
+  row-after : rowOf G S x ≡ record { status = 0; lifted = followers G A x; redone = redone }
+  row-after = row-accepted G S x accepted
+      ∙ ap (λ (n : ℕ). record { status = 0; lifted = followers G A x; redone = n }) (ap (λ B. count (recomputed G A B) (below (vertices s))) (sym bytes-after) ∙ sym (r .number))
+
+  -- the count that the record has for x is the number lifted
+  counted : getD fol x 0 ≡ followers G A x
+  unfolding followerCount
+  counted = right .counts x bx ∙ ap (λ b. cond b 65535 (followers G A x)) (false-of (A x) free)
+
+  pub row-counted : rowAs 0 (getD fol x 0) redone ≡ rowOf G S x
+  row-counted = ap (λ (n : ℕ). rowAs 0 n redone) counted ∙ sym row-after
+
+-- ---- the session
+
+-- a vertex has at most n followers
+pub followers-le : (G : Graph) (A : ℕ → Bool) (x : ℕ) → followers G A x ≤ G .size
+unfolding followers
+followers-le G A x = omega (arith, count-length (follows G A x) (below (G .size)), length-below (G .size))
+
+-- a recomputed row is not that of an anchored vertex: its count is that of its followers
+pub recomputed-count : (G : Graph) (A B : ℕ → Bool) (u : ℕ) → recomputed G A B u ≡ true → followerCount G B u ≡ followers G B u
+unfolding recomputed followerCount
+recomputed-count G A B u e = rw (false-of (B u) (and-l (not (B u)) _ (of-true _ e)))
+
+-- the two halves of what a request leaves
+turn-anchors : (G : Graph) (position x : ℕ) (S : Plain) → turn G position x S .anchors ≡ cond (eqb (statusOf G (S .anchors) x) 0) (adding (S .anchors) x) (S .anchors)
+unfolding turn
+turn-anchors G position x S = let accepts = eqb (statusOf G (S .anchors) x) 0 in split accepts (λ t. rw (true-of accepts t)) (λ t. rw (false-of accepts t))
+
+turn-stamps : (G : Graph) (position x : ℕ) (S : Plain) (v : ℕ) → let A = S .anchors in
+    turn G position x S .stamps v ≡ cond (eqb (statusOf G A x) 0) (cond (eqb x v || recomputed G A (adding A x) v) position (S .stamps v)) (S .stamps v)
+unfolding turn
+turn-stamps G position x S v = let accepts = eqb (statusOf G (S .anchors) x) 0 in split accepts (λ t. rw (true-of accepts t)) (λ t. rw (false-of accepts t))
+
+module _ (s l : List ℕ) where
+  -- at the start: bytes that read as the given ones, and stamps 0
+  pub stands-start : (given a st requests : List ℕ) → ((v : ℕ) → getD a v 0 ≡ getD given v 0) → Holds st (vertices s) (λ v. 0) → vertices s ≤ length st
+      → Stands (vertices s) a st (after (graphOf s l) (anchoredBy given) requests 0)
+  unfolding after
+  stands-start given a st requests e zeros long = record { anchors = anchored-same given a e; stamps = zeros; stamps-long = long }
+
+  module _ (a st : List ℕ) (S : Plain) (h : Stands (vertices s) a st S) where
+    abbrev own : Plain
+    own = plainOf a st
+
+    -- a request has the status and the numbers that it has in the plain session
+    pub stands-status : (x : ℕ) → statusOf (graphOf s l) (anchoredBy a) x ≡ statusOf (graphOf s l) (S .anchors) x
+    stands-status x = ap (λ B. statusOf (graphOf s l) B x) (h .anchors)
+
+    pub stands-row : (x : ℕ) → rowOf (graphOf s l) own x ≡ rowOf (graphOf s l) S x
+    unfolding rowOf
+    stands-row x = ap (λ B. rowOf (graphOf s l) (record { anchors = B; stamps = S .stamps }) x) (h .anchors)
+
+    -- and leaves what it leaves there
+    pub stands-anchors : (position x : ℕ) → turn (graphOf s l) position x own .anchors ≡ turn (graphOf s l) position x S .anchors
+    stands-anchors position x =
+        turn-anchors (graphOf s l) position x own
+        ∙ ap (λ B. cond (eqb (statusOf (graphOf s l) B x) 0) (adding B x) B) (h .anchors)
+        ∙ sym (turn-anchors (graphOf s l) position x S)
+
+    pub stands-stamps : (position x v : ℕ) → v < vertices s → turn (graphOf s l) position x own .stamps v ≡ turn (graphOf s l) position x S .stamps v
+    stands-stamps position x v b =
+        let G = graphOf s l in
+        let stamped : (ℕ → Bool) → ℕ → ℕ = λ B z. cond (eqb (statusOf G B x) 0) (cond (eqb x v || recomputed G B (adding B x) v) position z) z in
+        turn-stamps G position x own v
+        ∙ ap (λ B. stamped B (getD st v 0)) (h .anchors)
+        ∙ ap (stamped (S .anchors)) (h .stamps v b)
+        ∙ sym (turn-stamps G position x S v)
+
+    -- so what stands for its turn of the record's session stands for its turn of the plain session
+    pub stands-turn : (position x : ℕ) (aNow stNow : List ℕ) → Stands (vertices s) aNow stNow (turn (graphOf s l) position x own)
+        → Stands (vertices s) aNow stNow (turn (graphOf s l) position x S)
+    stands-turn position x aNow stNow g = record {
+      anchors = g .anchors ∙ stands-anchors position x;
+      stamps = λ v b. g .stamps v b ∙ stands-stamps position x v b;
+      stamps-long = g .stamps-long;
+    }
+
+  -- one request more
+  pub stands-more : (given requests : List ℕ) (i : ℕ) (a st aNow stNow : List ℕ) → Stands (vertices s) a st (after (graphOf s l) (anchoredBy given) requests i)
+      → Stands (vertices s) aNow stNow (turn (graphOf s l) (i + 1) (getD requests i 0) (plainOf a st))
+      → Stands (vertices s) aNow stNow (after (graphOf s l) (anchoredBy given) requests (i + 1))
+  stands-more given requests i a st aNow stNow h g =
+      subst (Stands (vertices s) aNow stNow) (sym (after-more (graphOf s l) (anchoredBy given) requests i))
+      (stands-turn a st (after (graphOf s l) (anchoredBy given) requests i) h (i + 1) (getD requests i 0) aNow stNow g)
+
+  -- a refused request leaves the record
+  pub stands-refused : (a st : List ℕ) (position x : ℕ) → vertices s ≤ length st → (statusOf (graphOf s l) (anchoredBy a) x ≡ 0 → ⊥) → Stands (vertices s) a st (turn (graphOf s l) position x (plainOf a st))
+  stands-refused a st position x long n =
+      subst (Stands (vertices s) a st) (sym (turn-refused (graphOf s l) (plainOf a st) x position n)) record { anchors = refl; stamps = λ v b. refl; stamps-long = long }
+
+  -- the two refusals of a request: no vertex, or one that is anchored
+  module _ (a st : List ℕ) (position x : ℕ) (long : vertices s ≤ length st) where
+    refused-with : (k : ℕ) → statusOf (graphOf s l) (anchoredBy a) x ≡ k → 0 < k
+        → Stands (vertices s) a st (turn (graphOf s l) position x (plainOf a st)) × (rowAs k 0 0 ≡ rowOf (graphOf s l) (plainOf a st) x)
+    unfolding rowOf
+    refused-with k e h = (
+      stands-refused a st position x long (λ z. absurd (omega arith)),
+      let off : eqb (statusOf (graphOf s l) (anchoredBy a) x) 0 ≡ false = ne-eqb (statusOf (graphOf s l) (anchoredBy a) x) 0 (λ z. absurd (omega arith)) in
+          rw (off, e),
+    )
+
+    pub refused-vertex : vertices s ≤ x → Stands (vertices s) a st (turn (graphOf s l) position x (plainOf a st)) × (rowAs 15 0 0 ≡ rowOf (graphOf s l) (plainOf a st) x)
+    unfolding statusOf
+    refused-vertex h = refused-with 15 (rw (le-ltb x (vertices s) h)) (omega arith)
+
+    pub refused-anchored : x < vertices s → getD a x 0 ≡ 1 → Stands (vertices s) a st (turn (graphOf s l) position x (plainOf a st)) × (rowAs 16 0 0 ≡ rowOf (graphOf s l) (plainOf a st) x)
+    unfolding statusOf
+    refused-anchored h e = refused-with 16 (rw (lt-ltb x (vertices s) h, eq-eqb (getD a x 0) 1 e)) (omega arith)

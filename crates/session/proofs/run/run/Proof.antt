@@ -1,0 +1,83 @@
+-- `run::run` meets its contract: demand 3 for every session that is not refused. Assumes nothing.
+use mathlib.Core.Path.{_≡_, refl, sym, _∙_}
+use lib.ListN.{length}
+use Rattle.table.specs.declared.Checked.the-variants.{Sound}
+use Rattle.session.specs.Run.{runOf}
+use Rattle.session.proofs.Serving.{run-ready}
+use borrow.Author.Needs.{needs}
+use Rattle.session.proofs.run.run.Statement.{statement}
+use Rattle.session.proofs.run.run.Tie as tie
+
+-- the answer is that nothing is refused
+told : (c : tie.After-enum-told) → let args = c .before .before .before .before .before .before .before .before .before .before .before .before .before .before .before .before .args in
+    runOf (args .starts .now) (args .links .now) (args .given .now) (length (args .requests .now)) (length (args .anchored .now)) (length (args .levels .now)) (length (args .layers .now)) (length (args .components .now)) (length (args .followers .now)) (length (args .stamps .now)) (length (args .status .now)) (length (args .lifted .now)) (length (args .redone .now)) ≡ Sound
+told c = sym (c .before .before .admit .ensures) ∙ c .enum-told .given .1
+
+-- the call, seen from the end
+abbrev called : tie.After-slice-known18 → tie.After-write
+called c = c .before .before .before .before .before .before .before .before .before .before .before .before .before .before .before .before .before .before
+
+admit-requires : tie.Need-admit-requires
+admit-requires c κs = search needs
+
+enum-known-admitted : tie.Need-enum-known-admitted
+enum-known-admitted c = search needs
+
+enum-told : tie.Need-enum-told
+enum-told c = search needs
+
+write-requires : tie.Need-write-requires
+write-requires c κs = run-ready _ _ _ _ _ _ _ _ _ _ _ _ _ (told (c .before .before .before .before .before .before .before .before .before))
+
+returns : tie.Need-returns
+returns c = (sym (sym (c .before .before .before .admit .ensures) ∙ c .before .admitted .given .1), (refl, (refl, (refl, (refl, (refl, (refl, (refl, (refl, refl)))))))))
+
+same-length : tie.Need-same-length
+same-length c = called c .write .kept .1 .1 .1 .1 .0
+
+same-length-2 : tie.Need-same-length-2
+same-length-2 c = called c .write .kept .1 .1 .1 .1 .1 .0
+
+same-length-3 : tie.Need-same-length-3
+same-length-3 c = called c .write .kept .1 .1 .1 .1 .1 .1 .0
+
+same-length-4 : tie.Need-same-length-4
+same-length-4 c = called c .write .kept .1 .1 .1 .1 .1 .1 .1 .0
+
+same-length-5 : tie.Need-same-length-5
+same-length-5 c = called c .write .kept .1 .1 .1 .1 .1 .1 .1 .1 .0
+
+same-length-6 : tie.Need-same-length-6
+same-length-6 c = called c .write .kept .1 .1 .1 .1 .1 .1 .1 .1 .1 .0
+
+same-length-7 : tie.Need-same-length-7
+same-length-7 c = called c .write .kept .1 .1 .1 .1 .1 .1 .1 .1 .1 .1 .0
+
+same-length-8 : tie.Need-same-length-8
+same-length-8 c = called c .write .kept .1 .1 .1 .1 .1 .1 .1 .1 .1 .1 .1 .0
+
+same-length-9 : tie.Need-same-length-9
+same-length-9 c = called c .write .kept .1 .1 .1 .1 .1 .1 .1 .1 .1 .1 .1 .1 .0
+
+returns-2 : tie.Need-returns-2
+returns-2 c = (sym (told (called c .before .before .before .before .before .before .before .before .before .before)), called c .write .ensures)
+
+pub run-spec : {M : Type 1} → statement M
+run-spec =
+    tie.close
+    (tie.spec
+    admit-requires
+    enum-known-admitted
+    enum-told
+    write-requires
+    returns
+    same-length
+    same-length-2
+    same-length-3
+    same-length-4
+    same-length-5
+    same-length-6
+    same-length-7
+    same-length-8
+    same-length-9
+    returns-2)

@@ -1,0 +1,4 @@
+pub mod Record
+pub mod Change
+pub mod Rows
+pub mod Run

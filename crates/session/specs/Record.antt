@@ -1,0 +1,35 @@
+-- The record that a session keeps, in arrays or slices, and the plain session that it stands for.
+use mathlib.Core.Path.{_≡_}
+use mathlib.Core.Bool.{Bool}
+use mathlib.Core.List.{List}
+use Prim.Native.Nat.{ℕ, _≤_}
+use lib.ListN.{length, getD}
+use Rattle.finite.specs.Count.{count, below}
+use Rattle.table.specs.Table.{vertices}
+use Rattle.anchored.specs.Core.{level, layer}
+use Rattle.anchored.specs.Component.{component}
+use Rattle.anchored.specs.Followers.{adding, followerCount}
+use Rattle.anchored.specs.Session.{Plain, Row, turn, rowOf}
+use Rattle.level.specs.Input.{graphOf, anchoredBy, Admitted}
+use Rattle.level.specs.Arrays.{Holds}
+
+-- the sheet is the defined one for the anchors in a: levels, layers, components
+pub record Sheet (s l a lev lay comps : List ℕ) : Type 0 where
+  pub admitted : Admitted s l a
+  pub levels : Holds lev (vertices s) (level (graphOf s l) (anchoredBy a))
+  pub layers : Holds lay (vertices s) (layer (graphOf s l) (anchoredBy a))
+  pub components : Holds comps (vertices s) (component (graphOf s l) (anchoredBy a))
+
+-- the record is right: the sheet, and every follower count
+pub record Right (s l a lev lay comps fol : List ℕ) : Type 0 where
+  pub sheet : Sheet s l a lev lay comps
+  pub counts : Holds fol (vertices s) (followerCount (graphOf s l) (anchoredBy a))
+  pub counts-long : vertices s ≤ length fol
+
+-- the plain session that the anchored bytes and the stamps stand for
+abbrev pub plainOf : List ℕ → List ℕ → Plain
+plainOf a st = record { anchors = anchoredBy a; stamps = λ v. getD st v 0 }
+
+-- the numbers of a request
+abbrev pub rowAs : ℕ → ℕ → ℕ → Row
+rowAs status lifted redone = record { status = status; lifted = lifted; redone = redone }

@@ -1,0 +1,83 @@
+// The record at the start.
+ghost use mathlib.Core.Path.{_≡_};
+ghost use mathlib.Core.List.{[]};
+ghost use Prim.Native.Nat.{ℕ, _≤_};
+ghost use lib.ListN.{length, getD};
+ghost use Rattle.table.specs.Table.{vertices};
+ghost use Rattle.anchored.specs.Core.{level as levelOf};
+ghost use Rattle.anchored.specs.Core.{layer as layerOf};
+ghost use Rattle.anchored.specs.Followers.{followerCount};
+ghost use Rattle.level.specs.Input.{graphOf, anchoredBy, Admitted};
+ghost use Rattle.level.specs.Arrays.{Holds};
+ghost use Rattle.session.specs.Record.{Right};
+ghost use Rattle.session.specs.Rows.{Copied, Stands};
+ghost use Rattle.session.specs.Run.{sessionOf};
+use super::record::Record;
+
+// The given bytes, with zeros after them.
+fn pad(given: &[u8], anchored: &mut [u8; 1024])
+    requires { ⌜ length (now given) ≤ 1024 ⌝ }
+    ensures { λ _. ⌜ Copied (now (given .entry)) (now (anchored .exit)) ⌝ }
+{
+    *anchored = [0; 1024];
+    let mut v: usize = 0;
+    while v < given.len() {
+        anchored[v] = given[v];
+        v += 1;
+    }
+}
+
+// The follower count of every row, into the first n places.
+fn count_rows(
+    starts: &[u16],
+    links: &[u16],
+    anchored: &[u8; 1024],
+    level: &[u16; 1024],
+    layer: &[u16; 1024],
+    followers: &mut [u16; 1024],
+)
+    requires { ⌜ Admitted (now starts) (now links) (now anchored) ⌝ }
+    requires { ⌜ Holds (now level) (vertices (now starts)) (levelOf (graphOf (now starts) (now links)) (anchoredBy (now anchored))) ⌝ }
+    requires { ⌜ Holds (now layer) (vertices (now starts)) (layerOf (graphOf (now starts) (now links)) (anchoredBy (now anchored))) ⌝ }
+    requires { ⌜ length (now followers) ≡ 1024 ⌝ }
+    ensures { λ _. ⌜ (length (now (followers .exit)) ≡ 1024) × Holds (now (followers .exit)) (vertices (now (starts .entry))) (followerCount (graphOf (now (starts .entry)) (now (links .entry))) (anchoredBy (now (anchored .entry)))) ⌝ }
+{
+    let n = starts.len() - 1;
+    let mut v: usize = 0;
+    while v < n {
+        followers[v] = super::afresh::count_followers(starts, links, anchored, level, layer, v);
+        v += 1;
+    }
+}
+
+// The record of a session with no requests.
+pub fn begin(starts: &[u16], links: &[u16], given: &[u8]) -> Record
+    requires { ⌜ Admitted (now starts) (now links) (now given) ⌝ }
+    requires { ⌜ length (now given) ≡ vertices (now starts) ⌝ }
+    ensures right { λ r. ⌜ Right (now (starts .entry)) (now (links .entry)) (r .anchored) (r .level) (r .layer) (r .component) (r .followers) ⌝ }
+    ensures stands { λ r. ⌜ Stands (vertices (now (starts .entry))) (r .anchored) (r .stamp) (sessionOf (now (starts .entry)) (now (links .entry)) (now (given .entry)) [] 0) ⌝ }
+{
+    let mut anchored = [0u8; 1024];
+    pad(given, &mut anchored);
+    let mut level = [0u16; 1024];
+    let mut layer = [0u16; 1024];
+    let mut component = [0u16; 1024];
+    super::afresh::refresh(
+        starts,
+        links,
+        &anchored,
+        &mut level,
+        &mut layer,
+        &mut component,
+    );
+    let mut followers = [0u16; 1024];
+    count_rows(starts, links, &anchored, &level, &layer, &mut followers);
+    Record {
+        anchored,
+        level,
+        layer,
+        component,
+        followers,
+        stamp: [0; 1024],
+    }
+}

@@ -1,0 +1,419 @@
+//! The anchored core worked out naively from document 01's sentences: cores by repeated deletion, lifts by a second working,
+//! sessions with everything fresh. Nothing here follows the planner's own code.
+
+use std::collections::BTreeSet;
+
+/// A refusal: number and place.
+pub type Refusal = (u32, u64);
+
+pub const ANCHORED: u16 = 65535;
+
+/// Vertices with their neighbors, from a table that passed the check.
+pub struct Graph {
+    pub neighbors: Vec<BTreeSet<usize>>,
+}
+
+impl Graph {
+    pub fn size(&self) -> usize {
+        self.neighbors.len()
+    }
+}
+
+/// Tests 1 to 8, the lowest number first, each over the whole table.
+pub fn check_table(starts: &[u16], links: &[u16]) -> Result<Graph, Refusal> {
+    if starts.is_empty() {
+        return Err((1, 0));
+    }
+    let n = starts.len() - 1;
+    if n > 1024 {
+        return Err((2, 0));
+    }
+    if links.len() > 16384 {
+        return Err((3, 0));
+    }
+    for i in 0..=n {
+        let wrong_first = i == 0 && starts[0] != 0;
+        let falls = i > 0 && starts[i] < starts[i - 1];
+        let wrong_last = i == n && starts[n] as usize != links.len();
+        if wrong_first || falls || wrong_last {
+            return Err((4, i as u64));
+        }
+    }
+    let list = |v: usize| &links[starts[v] as usize..starts[v + 1] as usize];
+    let lowest = |wrong: &dyn Fn(usize) -> bool| (0..n).find(|&v| wrong(v));
+    if let Some(v) = lowest(&|v| list(v).iter().any(|&u| u as usize >= n)) {
+        return Err((5, v as u64));
+    }
+    if let Some(v) = lowest(&|v| list(v).iter().any(|&u| u as usize == v)) {
+        return Err((6, v as u64));
+    }
+    if let Some(v) = lowest(&|v| list(v).windows(2).any(|w| w[0] >= w[1])) {
+        return Err((7, v as u64));
+    }
+    if let Some(v) = lowest(&|v| list(v).iter().any(|&u| !list(u as usize).contains(&(v as u16)))) {
+        return Err((8, v as u64));
+    }
+    Ok(Graph { neighbors: (0..n).map(|v| list(v).iter().map(|&u| u as usize).collect()).collect() })
+}
+
+/// The largest set in which each vertex not anchored has at least k neighbors.
+fn core(graph: &Graph, anchored: &[bool], k: usize) -> Vec<bool> {
+    let mut present = vec![true; graph.size()];
+    loop {
+        let weak = (0..graph.size()).find(|&v| present[v] && !anchored[v] && inside(graph, &present, v) < k);
+        match weak {
+            Some(v) => present[v] = false,
+            None => return present,
+        }
+    }
+}
+
+fn inside(graph: &Graph, present: &[bool], v: usize) -> usize {
+    graph.neighbors[v].iter().filter(|&&u| present[u]).count()
+}
+
+/// Levels, layers, components, as document 01 defines them.
+#[derive(Clone, PartialEq, Debug)]
+pub struct Sheet {
+    pub level: Vec<u16>,
+    pub layer: Vec<u16>,
+    pub component: Vec<u16>,
+}
+
+pub fn sheet(graph: &Graph, anchored: &[bool]) -> Sheet {
+    let n = graph.size();
+    let mut level = vec![ANCHORED; n];
+    let mut layer = vec![0u16; n];
+    let mut k = 0;
+    loop {
+        let start = core(graph, anchored, k);
+        if !(0..n).any(|v| start[v] && !anchored[v]) {
+            break;
+        }
+        for v in 0..n {
+            if start[v] && !anchored[v] {
+                level[v] = k as u16;
+            }
+        }
+        k += 1;
+    }
+    for k in 0..k {
+        let mut present = core(graph, anchored, k);
+        let mut batch = 0;
+        loop {
+            let goes: Vec<usize> =
+                (0..n).filter(|&v| present[v] && !anchored[v] && inside(graph, &present, v) < k + 1).collect();
+            if goes.is_empty() {
+                break;
+            }
+            batch += 1;
+            for &v in &goes {
+                present[v] = false;
+                if level[v] as usize == k {
+                    layer[v] = batch;
+                }
+            }
+        }
+    }
+    let mut component = vec![ANCHORED; n];
+    for v in 0..n {
+        if anchored[v] {
+            continue;
+        }
+        let mut region = BTreeSet::from([v]);
+        let mut grown = true;
+        while grown {
+            grown = false;
+            for u in region.clone() {
+                for &w in &graph.neighbors[u] {
+                    if !anchored[w] && level[w] == level[v] && region.insert(w) {
+                        grown = true;
+                    }
+                }
+            }
+        }
+        component[v] = *region.iter().next().unwrap() as u16;
+    }
+    Sheet { level, layer, component }
+}
+
+/// Tests 9 and 10 after those of the table.
+pub fn admit(starts: &[u16], links: &[u16], bytes: &[u8]) -> Result<(Graph, Vec<bool>), Refusal> {
+    let graph = check_table(starts, links)?;
+    if bytes.len() != graph.size() {
+        return Err((9, 0));
+    }
+    if let Some(v) = bytes.iter().position(|&b| b > 1) {
+        return Err((10, v as u64));
+    }
+    Ok((graph, bytes.iter().map(|&b| b == 1).collect()))
+}
+
+/// The components as (level, size, number), in any order.
+pub fn components(graph: &Graph, anchored: &[bool]) -> BTreeSet<(u16, u16, u16)> {
+    let s = sheet(graph, anchored);
+    let numbers: BTreeSet<u16> = s.component.iter().copied().filter(|&p| p != ANCHORED).collect();
+    numbers
+        .into_iter()
+        .map(|p| (s.level[p as usize], s.component.iter().filter(|&&q| q == p).count() as u16, p))
+        .collect()
+}
+
+/// Tests 13 and 14.
+pub fn check_sheet(graph: &Graph, anchored: &[bool], level: &[u16], layer: &[u16]) -> Result<(), Refusal> {
+    let n = graph.size();
+    if level.len() != n || layer.len() != n {
+        return Err((13, 0));
+    }
+    let s = sheet(graph, anchored);
+    if level != s.level || layer != s.layer {
+        return Err((14, 0));
+    }
+    Ok(())
+}
+
+/// Who follows x: a second working of all levels.
+pub fn followers(graph: &Graph, anchored: &[bool], x: usize) -> Vec<bool> {
+    let before = sheet(graph, anchored);
+    let mut more = anchored.to_vec();
+    more[x] = true;
+    let after = sheet(graph, &more);
+    (0..graph.size()).map(|v| !more[v] && after.level[v] > before.level[v]).collect()
+}
+
+/// Whom upstair walks from x reach.
+pub fn candidates(graph: &Graph, anchored: &[bool], x: usize) -> Vec<bool> {
+    let s = sheet(graph, anchored);
+    let pair = |v: usize| (s.level[v], s.layer[v]);
+    let mut hit = vec![false; graph.size()];
+    let mut open: Vec<usize> =
+        graph.neighbors[x].iter().copied().filter(|&v| !anchored[v] && pair(v) > pair(x)).collect();
+    while let Some(v) = open.pop() {
+        if hit[v] {
+            continue;
+        }
+        hit[v] = true;
+        for &w in &graph.neighbors[v] {
+            if !anchored[w] && s.level[w] == s.level[v] && s.layer[w] > s.layer[v] {
+                open.push(w);
+            }
+        }
+    }
+    hit
+}
+
+/// Marks, count followers, count candidates.
+pub fn search(graph: &Graph, anchored: &[bool], x: usize) -> (Vec<u8>, usize, usize) {
+    let up = followers(graph, anchored, x);
+    let hit = candidates(graph, anchored, x);
+    let marks: Vec<u8> = (0..graph.size()).map(|v| if up[v] { 2 } else { hit[v] as u8 }).collect();
+    let count = |set: &[bool]| set.iter().filter(|&&b| b).count();
+    (marks, count(&up), count(&hit))
+}
+
+pub fn follower_count(graph: &Graph, anchored: &[bool], x: usize) -> u16 {
+    if anchored[x] {
+        ANCHORED
+    } else {
+        followers(graph, anchored, x).iter().filter(|&&b| b).count() as u16
+    }
+}
+
+fn component_of(s: &Sheet, v: usize) -> BTreeSet<usize> {
+    (0..s.component.len()).filter(|&w| s.component[w] == s.component[v]).collect()
+}
+
+/// Partners who are anchored or of higher level.
+fn above(graph: &Graph, anchored: &[bool], s: &Sheet, v: usize) -> usize {
+    graph.neighbors[v].iter().filter(|&&u| anchored[u] || s.level[u] > s.level[v]).count()
+}
+
+/// The rows recomputed by the step from `a` to `b`.
+pub fn recomputed(graph: &Graph, a: &[bool], b: &[bool]) -> Vec<bool> {
+    let n = graph.size();
+    let (before, after) = (sheet(graph, a), sheet(graph, b));
+    let undisturbed = |v: usize| {
+        !a[v]
+            && !b[v]
+            && before.level[v] == after.level[v]
+            && component_of(&before, v) == component_of(&after, v)
+            && component_of(&before, v).iter().all(|&w| above(graph, a, &before, w) == above(graph, b, &after, w))
+    };
+    let calm: Vec<bool> = (0..n).map(undisturbed).collect();
+    let looks = |anchored: &[bool], s: &Sheet, u: usize| {
+        graph.neighbors[u].iter().any(|&v| {
+            !anchored[v] && (s.level[v], s.layer[v]) > (s.level[u], s.layer[u]) && !calm[v]
+        })
+    };
+    (0..n).map(|u| !b[u] && (looks(a, &before, u) || looks(b, &after, u))).collect()
+}
+
+/// The record of a session, and the three numbers of each request.
+#[derive(Clone, PartialEq, Debug)]
+pub struct Record {
+    pub anchored: Vec<u8>,
+    pub sheet: Sheet,
+    pub follower_counts: Vec<u16>,
+    pub stamps: Vec<u16>,
+    pub status: Vec<u16>,
+    pub followers: Vec<u16>,
+    pub recomputed: Vec<u16>,
+}
+
+/// The plain session, everything fresh.
+pub fn session(graph: &Graph, start: &[bool], requests: &[u16]) -> Record {
+    let n = graph.size();
+    let mut set = start.to_vec();
+    let mut stamps = vec![0u16; n];
+    let (mut status, mut up, mut again) = (vec![], vec![], vec![]);
+    for (i, &request) in requests.iter().enumerate() {
+        let x = request as usize;
+        if x >= n || set[x] {
+            status.push(if x >= n { 15 } else { 16 });
+            up.push(0);
+            again.push(0);
+            continue;
+        }
+        let mut next = set.clone();
+        next[x] = true;
+        let rows = recomputed(graph, &set, &next);
+        status.push(0);
+        up.push(followers(graph, &set, x).iter().filter(|&&b| b).count() as u16);
+        again.push(rows.iter().filter(|&&b| b).count() as u16);
+        for v in 0..n {
+            if v == x || rows[v] {
+                stamps[v] = i as u16 + 1;
+            }
+        }
+        set = next;
+    }
+    Record {
+        anchored: set.iter().map(|&b| b as u8).collect(),
+        sheet: sheet(graph, &set),
+        follower_counts: (0..n).map(|v| follower_count(graph, &set, v)).collect(),
+        stamps,
+        status,
+        followers: up,
+        recomputed: again,
+    }
+}
+
+/// The vertex a round anchors, if anyone is left.
+pub fn choice(graph: &Graph, anchored: &[bool]) -> Option<usize> {
+    let free: Vec<usize> = (0..graph.size()).filter(|&v| !anchored[v]).collect();
+    let best = free.iter().map(|&v| follower_count(graph, anchored, v)).max()?;
+    free.into_iter().find(|&v| follower_count(graph, anchored, v) == best)
+}
+
+/// The lines of the answer sheet.
+pub fn rounds(graph: &Graph, start: &[bool], count: usize) -> Vec<u8> {
+    let mut set = start.to_vec();
+    let mut out = String::new();
+    for r in 1..=count {
+        match choice(graph, &set) {
+            Some(x) => {
+                let up = followers(graph, &set, x);
+                let mut next = set.clone();
+                next[x] = true;
+                let rows = recomputed(graph, &set, &next).iter().filter(|&&b| b).count();
+                let marks: String = up.iter().map(|&b| if b { '+' } else { '.' }).collect();
+                out.push_str(&format!("(round {r:02} (retain {x:04}) (marks {marks}) (redone {rows:04}))\n"));
+                set = next;
+            }
+            None => {
+                let marks = ".".repeat(graph.size());
+                out.push_str(&format!("(round {r:02} (retain ----) (marks {marks}) (redone 0000))\n"));
+            }
+        }
+    }
+    out.into_bytes()
+}
+
+/// What a well-formed text says.
+pub struct Said {
+    pub lists: Vec<Vec<u16>>,
+    pub anchored: Vec<u16>,
+    pub rounds: u16,
+}
+
+fn number(word: &str) -> Option<u16> {
+    let plain = !word.is_empty() && word.bytes().all(|b| b.is_ascii_digit()) && (word == "0" || !word.starts_with('0'));
+    if plain { word.parse().ok() } else { None }
+}
+
+fn numbers(list: &str) -> Option<Vec<u16>> {
+    if list.is_empty() {
+        return Some(vec![]);
+    }
+    list.strip_prefix(' ')?.split(' ').map(number).collect()
+}
+
+/// The text line by line; the number of the first line that departs, is missing or is extra.
+pub fn read(text: &[u8]) -> Result<Said, u64> {
+    let mut lines: Vec<Option<&str>> = vec![];
+    let mut rest = text;
+    while !rest.is_empty() {
+        match rest.iter().position(|&b| b == 10) {
+            Some(end) => {
+                lines.push(std::str::from_utf8(&rest[..end]).ok());
+                rest = &rest[end + 1..];
+            }
+            None => {
+                lines.push(None);
+                rest = &[];
+            }
+        }
+    }
+    let line = |i: usize| lines.get(i).copied().flatten();
+    let form = |i: usize, head: &str, tail: &str| line(i).and_then(|t| t.strip_prefix(head)).and_then(|t| t.strip_suffix(tail));
+    let n = form(0, "(riders ", ")").and_then(number).ok_or(1u64)? as usize;
+    let mut lists = vec![];
+    for v in 0..n {
+        let list = form(1 + v, &format!("(rider {v} (with"), "))").and_then(numbers);
+        lists.push(list.ok_or(v as u64 + 2)?);
+    }
+    let anchored = form(1 + n, "(retained", ")").and_then(numbers).ok_or(n as u64 + 2)?;
+    if anchored.windows(2).any(|w| w[0] >= w[1]) {
+        return Err(n as u64 + 2);
+    }
+    let rounds = form(2 + n, "(rounds ", ")").and_then(number).ok_or(n as u64 + 3)?;
+    if lines.len() > n + 3 {
+        return Err(n as u64 + 4);
+    }
+    Ok(Said { lists, anchored, rounds })
+}
+
+/// The text-to-sheet call: 17, 18, 2, 3, 5, 6, 7, 8, 11, 12, 15.
+pub fn text_to_sheet(text: &[u8], room: usize) -> Result<Vec<u8>, Refusal> {
+    if text.len() > 65536 {
+        return Err((17, 0));
+    }
+    let said = read(text).map_err(|line| (18, line))?;
+    let n = said.lists.len();
+    if n > 1024 {
+        return Err((2, 0));
+    }
+    let links: Vec<u16> = said.lists.concat();
+    if links.len() > 16384 {
+        return Err((3, 0));
+    }
+    let mut starts = vec![0u16];
+    for list in &said.lists {
+        starts.push(starts[starts.len() - 1] + list.len() as u16);
+    }
+    let graph = check_table(&starts, &links)?;
+    if said.rounds > 60 {
+        return Err((11, 0));
+    }
+    if room < said.rounds as usize * (48 + n) {
+        return Err((12, 0));
+    }
+    if let Some(&request) = said.anchored.iter().find(|&&v| v as usize >= n) {
+        return Err((15, request as u64));
+    }
+    let mut start = vec![false; n];
+    for &v in &said.anchored {
+        start[v as usize] = true;
+    }
+    Ok(rounds(&graph, &start, said.rounds as usize))
+}
