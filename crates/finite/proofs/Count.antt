@@ -2,7 +2,7 @@
 use mathlib.Core.Path.{_≡_, refl, sym, ap, ap₂, _∙_, subst}
 use mathlib.Core.Logic.{_↔_, _⊎_, inl, inr, ⊎-elim}
 use mathlib.Core.Bool.{Bool, true, false, not, _&&_, _||_, cond}
-use mathlib.Core.List.{List, [], _∷_, _++_, append-assoc, append-nil}
+use mathlib.Core.List.{List, [], _∷_, _++_, flatten, append-assoc, append-nil}
 use Prim.Native.Nat.{ℕ, zero, suc, _+_, _-_, _≤_, _<_, zero-le}
 use native.Mathlib.Nat.{not-suc-le-zero, eq-or-lt-of-le}
 use native.Mathlib.Numerals.{add-one}
@@ -54,6 +54,12 @@ in-append (u ∷ us) m w = let r = in-append us m w in (
   ⊎-elim (λ e. inl (inl e)) (λ i. ⊎-elim (λ j. inl (inr j)) inr (r .0 i)),
   ⊎-elim (⊎-elim inl (λ j. inr (r .1 (inl j)))) (λ j. inr (r .1 (inr j))),
 )
+
+-- what two lists of lists hold, one behind the other
+pub flatten-append : (ls ms : List (List ℕ)) → flatten (ls ++ ms) ≡ flatten ls ++ flatten ms
+unfolding flatten
+flatten-append [] ms = refl
+flatten-append (l ∷ ls) ms = ap (λ (r : List ℕ). l ++ r) (flatten-append ls ms) ∙ sym (append-assoc l (flatten ls) (flatten ms))
 
 -- one number more, that did not stand in the list
 pub distinct-snoc : (l : List ℕ) (w : ℕ) → Distinct l → (In w l → ⊥) → Distinct (l ++ w ∷ [])

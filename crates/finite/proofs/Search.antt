@@ -330,6 +330,38 @@ ascending-distinct (x ∷ xs) t = (
   ascending-distinct xs (ascending-tail x xs t),
 )
 
+-- a scan for order: each number is `least` or more, one more than the number before it
+abbrev pub scans : ℕ → List ℕ → Bool
+scans least [] = true
+scans least (x ∷ xs) = leb least x && scans (x + 1) xs
+
+scans-ascending : (least : ℕ) (xs : List ℕ) → T (scans least xs) → T (ascending xs)
+unfolding ascending
+scans-ascending least [] t = all-below-i (rises []) 0 (λ i h. absurd (omega arith))
+scans-ascending least (x ∷ []) t = all-below-i (rises (x ∷ [])) 0 (λ i h. absurd (omega arith))
+scans-ascending least (x ∷ y ∷ ys) t =
+    let rest = and-r (leb least x) _ t in
+    let tail = scans-ascending (x + 1) (y ∷ ys) rest in
+    let step = leb→le (x + 1) y (and-l (leb (x + 1) y) _ rest) in
+    all-below-i (rises (x ∷ y ∷ ys)) (length (x ∷ y ∷ ys) - 1) (λ i h. at step tail i (omega arith))
+  where
+    at : x + 1 ≤ y → T (ascending (y ∷ ys)) → (i : ℕ) → i < length (y ∷ ys) → T (rises (x ∷ y ∷ ys) i)
+    at h tail zero b = le→leb (suc x) y (omega arith)
+    at h tail (suc i) b =
+        let r = ascending-step (y ∷ ys) tail i (omega arith) in
+        let q : suc i + 1 ≡ suc (i + 1) = omega arith in
+        rw q (le→leb (suc (getD (y ∷ ys) i 0)) (getD (y ∷ ys) (i + 1) 0) r)
+
+ascending-scans : (least : ℕ) (xs : List ℕ) → T (ascending xs) → (0 < length xs → least ≤ getD xs 0 0) → T (scans least xs)
+ascending-scans least [] t h = tt
+ascending-scans least (x ∷ xs) t h =
+    and-i (leb least x) _ (le→leb least x (h (omega arith)))
+    (ascending-scans (x + 1) xs (ascending-tail x xs t) (λ b. let r = ascending-step (x ∷ xs) t 0 (omega arith) in omega arith))
+
+-- a list ascends exactly when a scan from 0 on passes
+pub ascending-scan : (xs : List ℕ) → ascending xs ≡ scans 0 xs
+ascending-scan xs = same (ascending xs) (scans 0 xs) (λ t. ascending-scans 0 xs t (λ b. zero-le)) (scans-ascending 0 xs)
+
 -- none below 0, and one more number below i + 1
 pub any-below-zero : (p : ℕ → Bool) → any p (below 0) ≡ false
 unfolding any below tabulate

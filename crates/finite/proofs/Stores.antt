@@ -5,8 +5,8 @@ use Prim.Native.Nat.{ℕ, zero, suc, _+_, _≤_}
 use native.Mathlib.Nat.{add-zero, add-suc, suc-add}
 use native.Mathlib.Numerals.{add-one}
 use native.Mathlib.Omega.{arith}
-use lib.ListN.{length, getD, set}
-use lib.Seq.{sets}
+use lib.ListN.{length, take, drop, getD, set}
+use lib.Seq.{sets, sets-eq, take-append-seam}
 use Rattle.finite.specs.Count.{tabulate}
 use Rattle.finite.proofs.Count.{length-tabulate}
 
@@ -22,6 +22,10 @@ set-raises (w ∷ ws) (suc i) x (suc k) h = set-raises ws i x k h
 pub sets-append : (d : List ℕ) (a : ℕ) (xs ys : List ℕ) → sets (sets d a xs) (a + length xs) ys ≡ sets d a (xs ++ ys)
 sets-append d a [] ys = rw add-zero
 sets-append d a (x ∷ xs) ys = rw (add-suc, ← suc-add) (sets-append (set d a x) (suc a) xs ys)
+
+-- a run from the front on that fits is what the list then begins with
+pub sets-front : (d xs : List ℕ) → length xs ≤ length d → take (length xs) (sets d 0 xs) ≡ xs
+sets-front d xs h = ap (take (length xs)) (sets-eq xs d 0 (omega arith)) ∙ take-append-seam xs (drop (0 + length xs) d)
 
 module _ (f : ℕ → ℕ) where
   -- a loop that stores f 0, f 1, .. from place a on: nothing stored, one more stored

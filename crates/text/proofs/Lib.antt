@@ -1,0 +1,10 @@
+pub mod Numbers
+pub mod Forms
+pub mod Lists
+pub mod Lines
+pub mod Texts
+pub mod Spelling
+pub mod Accepted
+pub mod Departures
+pub mod Closed
+pub mod Arrays

@@ -1,0 +1,72 @@
+-- `form::skip` meets its contract. The loop's invariant: the bytes before i are found, up to the place. Assumes nothing.
+use mathlib.Core.Path.{_≡_, refl, ap, _∙_}
+use Prim.Native.Nat.{ℕ, _+_, _-_, _≤_}
+use native.Mathlib.Omega.{arith}
+use lib.ListN.{length, drop}
+use borrow.Author.Needs.{needs}
+use Rattle.text.specs.Number.{cursor}
+use Rattle.text.specs.Form.{begins}
+use Rattle.text.specs.declared.form.Next.{Next}
+use Rattle.text.proofs.Forms.{begins-past, begins-other, begins-more, begins-all}
+use Rattle.text.proofs.form.skip.Statement.{statement}
+use Rattle.text.proofs.form.skip.Tie as tie
+
+abbrev Inv-loop : tie.InvT-loop
+Inv-loop text bytes place₀ i₀ place i = (i ≤ length bytes) × (place ≡ place₀ + i) × (begins bytes (drop place₀ text) ≡ begins (drop i bytes) (drop place text))
+
+abbrev μ-loop : tie.MeasureT-loop
+μ-loop text bytes place₀ i₀ place i = length bytes - i
+
+loop-holds : tie.Need-loop-holds Inv-loop μ-loop
+loop-holds c = (omega arith, omega arith, refl)
+
+returns : tie.Need-returns Inv-loop μ-loop
+returns c = simp (c .before .before .loop .inv .2 ∙ begins-past _ _ _ _ (c .before .loop-test .taken) (c .if1 .taken))
+
+shared-slice-read-if2 : tie.Need-shared-slice-read-if2 Inv-loop μ-loop
+shared-slice-read-if2 c = omega arith
+
+shared-slice-read-if2-2 : tie.Need-shared-slice-read-if2-2 Inv-loop μ-loop
+shared-slice-read-if2-2 c = omega arith
+
+returns-2 : tie.Need-returns-2 Inv-loop μ-loop
+returns-2 c =
+    let at = c .before .before .before .before .before in
+    simp (at .loop .inv .2 ∙ begins-other _ _ _ _ (c .before .before .before .before .loop-test .taken) (c .before .before .before .if1 .left) (c .if2 .taken))
+
+add-place : tie.Need-add-place Inv-loop μ-loop
+add-place c = search needs
+
+add-i : tie.Need-add-i Inv-loop μ-loop
+add-i c = search needs
+
+loop-less : tie.Need-loop-less Inv-loop μ-loop
+loop-less c = search needs
+
+loop-again : tie.Need-loop-again Inv-loop μ-loop
+loop-again c =
+    let at = c .before .before .before .before .before in
+    (omega arith, omega arith, at .loop .inv .2 ∙ begins-more _ _ _ _ (c .before .before .before .before .loop-test .taken) (c .before .before .before .if1 .left) (c .if2 .left))
+
+returns-3 : tie.Need-returns-3 Inv-loop μ-loop
+returns-3 c =
+    let at = c .before in
+    let all = begins-all _ (at .before .args .text .now) _ (at .loop .place) (c .loop-test .left) in
+    rw (at .loop .inv .2 ∙ all) (ap (λ (p : ℕ). Next.To (cursor p)) (omega arith))
+
+pub skip-spec : {M : Type 1} → statement M
+skip-spec =
+    tie.close
+    (tie.spec
+    Inv-loop
+    μ-loop
+    loop-holds
+    returns
+    shared-slice-read-if2
+    shared-slice-read-if2-2
+    returns-2
+    add-place
+    add-i
+    loop-less
+    loop-again
+    returns-3)

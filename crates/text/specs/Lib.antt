@@ -1,0 +1,7 @@
+pub mod Number
+pub mod Form
+pub mod List
+pub mod Line
+pub mod Text
+pub mod Spelling
+pub mod Cases
