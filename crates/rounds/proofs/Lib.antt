@@ -1,0 +1,4 @@
+pub mod Choices
+pub mod Lines
+pub mod Playing
+pub mod Sessions
