@@ -1,8 +1,8 @@
 use mathlib.Core.Path.{sym, ap}
-use Rattle.planner_c.specs.Answer.{checkedAs}
+use Rattle.planner_c.specs.Answers.{checkedAs}
 use borrow.Author.Needs.{needs}
-use Rattle.planner_c.proofs.of_checked.Statement.{statement}
-use Rattle.planner_c.proofs.of_checked.Tie as tie
+use Rattle.planner_c.proofs.answer.of_checked.Statement.{statement}
+use Rattle.planner_c.proofs.answer.of_checked.Tie as tie
 
 enum-told : tie.Need-enum-told
 enum-told c = search needs

@@ -1,8 +1,8 @@
 use mathlib.Core.Path.{ap, _∙_}
-use Rattle.planner_c.specs.Answer.{checkedAs}
+use Rattle.planner_c.specs.Answers.{checkedAs}
 use borrow.Author.Needs.{needs}
-use Rattle.planner_c.proofs.planner_check.Statement.{statement}
-use Rattle.planner_c.proofs.planner_check.Tie as tie
+use Rattle.planner_c.proofs.tables.planner_check.Statement.{statement}
+use Rattle.planner_c.proofs.tables.planner_check.Tie as tie
 
 check-requires : tie.Need-check-requires
 check-requires c κs = search needs

@@ -1,8 +1,8 @@
 use mathlib.Core.Path.{ap, _∙_}
-use Rattle.planner_c.specs.Answer.{searchedAs}
+use Rattle.planner_c.specs.Answers.{searchedAs}
 use borrow.Author.Needs.{needs}
-use Rattle.planner_c.proofs.planner_followers.Statement.{statement}
-use Rattle.planner_c.proofs.planner_followers.Tie as tie
+use Rattle.planner_c.proofs.levels.planner_followers.Statement.{statement}
+use Rattle.planner_c.proofs.levels.planner_followers.Tie as tie
 
 followers-requires : tie.Need-followers-requires
 followers-requires c κs = search needs

@@ -1,8 +1,8 @@
 use mathlib.Core.Path.{ap, _∙_}
-use Rattle.planner_c.specs.Answer.{checkedAs}
+use Rattle.planner_c.specs.Answers.{checkedAs}
 use borrow.Author.Needs.{needs}
-use Rattle.planner_c.proofs.planner_work.Statement.{statement}
-use Rattle.planner_c.proofs.planner_work.Tie as tie
+use Rattle.planner_c.proofs.levels.planner_work.Statement.{statement}
+use Rattle.planner_c.proofs.levels.planner_work.Tie as tie
 
 work-requires : tie.Need-work-requires
 work-requires c κs = search needs

@@ -1,6 +1,6 @@
 -- The numbers of an answer, as Rust and C get them: 0 and an accepted call's values, or a refusal's number and place.
 use Prim.Native.Nat.{ℕ}
-use Rattle.planner_c.specs.declared.Answer.{Answer}
+use Rattle.planner_c.specs.declared.answer.Answer.{Answer}
 use Rattle.table.specs.declared.Checked.{Checked}
 use Rattle.table.specs.declared.Checked.the-variants.{Sound, Refused}
 use Rattle.level.specs.declared.followers.Searched.{Searched}

@@ -1,8 +1,8 @@
 use mathlib.Core.Path.{ap, _∙_}
-use Rattle.planner_c.specs.Answer.{listedAs}
+use Rattle.planner_c.specs.Answers.{listedAs}
 use borrow.Author.Needs.{needs}
-use Rattle.planner_c.proofs.planner_list_components.Statement.{statement}
-use Rattle.planner_c.proofs.planner_list_components.Tie as tie
+use Rattle.planner_c.proofs.levels.planner_list_components.Statement.{statement}
+use Rattle.planner_c.proofs.levels.planner_list_components.Tie as tie
 
 list-components-requires : tie.Need-list-components-requires
 list-components-requires c κs = search needs

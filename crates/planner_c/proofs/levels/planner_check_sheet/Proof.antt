@@ -1,8 +1,8 @@
 use mathlib.Core.Path.{ap, _∙_}
-use Rattle.planner_c.specs.Answer.{checkedAs}
+use Rattle.planner_c.specs.Answers.{checkedAs}
 use borrow.Author.Needs.{needs}
-use Rattle.planner_c.proofs.planner_check_sheet.Statement.{statement}
-use Rattle.planner_c.proofs.planner_check_sheet.Tie as tie
+use Rattle.planner_c.proofs.levels.planner_check_sheet.Statement.{statement}
+use Rattle.planner_c.proofs.levels.planner_check_sheet.Tie as tie
 
 check-sheet-requires : tie.Need-check-sheet-requires
 check-sheet-requires c κs = search needs
