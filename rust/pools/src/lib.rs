@@ -1,6 +1,8 @@
 //! Pools to test and to measure by: a deterministic generator, random tables, small ones by enumeration, and their texts.
 
 use std::collections::BTreeSet;
+use std::fs;
+use std::path::{Path, PathBuf};
 
 /// A deterministic generator (xorshift).
 pub struct Random(pub u64);
@@ -151,4 +153,36 @@ impl Pool {
         text.push_str(&format!("(retained{})\n(rounds {rounds})\n", words(&anchored)));
         text.into_bytes()
     }
+}
+
+/// An example of the folder examples/: its name, its text, and what the program prints for it.
+pub struct Example {
+    pub name: String,
+    pub text: Vec<u8>,
+    pub printed: Vec<u8>,
+}
+
+pub fn examples_folder() -> PathBuf {
+    Path::new(env!("CARGO_MANIFEST_DIR")).join("../../examples")
+}
+
+/// Every text in the folder examples/, by name.
+pub fn examples() -> Vec<Example> {
+    let mut names: Vec<PathBuf> = fs::read_dir(examples_folder()).unwrap().map(|entry| entry.unwrap().path()).collect();
+    names.retain(|path| path.extension().is_some_and(|kind| kind == "txt"));
+    names.sort();
+    let read = |path: &Path| fs::read(path).unwrap();
+    names
+        .into_iter()
+        .map(|path| Example {
+            name: path.file_stem().unwrap().to_string_lossy().into_owned(),
+            text: read(&path),
+            printed: read(&path.with_extension("sheet")),
+        })
+        .collect()
+}
+
+/// What the program prints: the sheet, or the refusal as a line.
+pub fn printed(answer: Result<Vec<u8>, (u64, u64)>) -> Vec<u8> {
+    answer.unwrap_or_else(|(number, place)| format!("(refused {number} {place})\n").into_bytes())
 }
