@@ -17,7 +17,7 @@ pub fn held(len: usize, salt: u16) -> Vec<u16> {
     (0..len).map(|i| 40000 + salt * 1100 + i as u16).collect()
 }
 
-/// Small pools that each break one rule of the table or the bytes, with the refusal; the table has as many starts as `size` says.
+/// Pools that break a rule of the table or of the bytes, each with its refusal.
 pub fn broken() -> Vec<(Pool, Refusal)> {
     let pool = |starts: &[u16], links: &[u16], anchored: &[u8]| Pool {
         starts: starts.to_vec(),
