@@ -5,7 +5,7 @@ use std::fs;
 
 /// Forty riders of four stations: most pairs within a station, some across, a few riders with one partner only.
 fn stations() -> Pool {
-    let mut random = Random(20040229);
+    let mut random = Random(63352);
     let ends = [0, 13, 24, 33, 37];
     let mut edges = vec![];
     for (station, share) in [30, 45, 60, 90].into_iter().enumerate() {
@@ -38,7 +38,7 @@ fn main() {
         ("chain", chain_text.clone().into_bytes()),
         ("stations", stations().text(8)),
         ("thousand", Pool::random(&mut Random(1000), 1000, 5000).text(20)),
-        ("missing_return", without_return(&stations(), 9, 8).into_bytes()),
+        ("missing_return", without_return(&stations(), 20, 8).into_bytes()),
         ("bad_line", chain_text.replace("(with 1 3)", "(with 1 03)").into_bytes()),
     ];
     fs::create_dir_all(examples_folder()).unwrap();
