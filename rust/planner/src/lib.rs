@@ -1,4 +1,8 @@
-//! Safe calls of the proved planner. Nothing checks the declarations below against the Rattle source: crates/planner_c/src/lib.rt.
+//! Safe calls of the proved planner, one for each function that crates/planner_c exports.
+
+mod exports;
+
+use exports::Answer;
 
 /// A refusal: document 01's number and place.
 #[derive(Clone, Copy, PartialEq, Eq, Debug)]
@@ -7,42 +11,17 @@ pub struct Refusal {
     pub place: u64,
 }
 
-/// Number 0 for an accepted call, with its values; else the refusal's number and place.
-#[repr(C)]
-struct Answer {
-    number: u64,
-    first: u64,
-    second: u64,
-}
-
 impl Answer {
-    fn result(self) -> Result<(u64, u64), Refusal> {
+    fn result(self) -> Result<(usize, usize), Refusal> {
         match self.number {
-            0 => Ok((self.first, self.second)),
+            0 => Ok((self.first as usize, self.second as usize)),
             number => Err(Refusal { number, place: self.first }),
         }
     }
-}
 
-// A slice passes as its pointer and its length.
-extern "C" {
-    fn planner_check(starts: *const u16, starts_len: usize, links: *const u16, links_len: usize) -> Answer;
-    fn planner_work(
-        starts: *const u16, starts_len: usize, links: *const u16, links_len: usize, anchored: *const u8, anchored_len: usize,
-        levels: *mut u16, levels_len: usize, layers: *mut u16, layers_len: usize, components: *mut u16, components_len: usize,
-    ) -> Answer;
-    fn planner_list_components(
-        starts: *const u16, starts_len: usize, links: *const u16, links_len: usize, anchored: *const u8, anchored_len: usize,
-        levels: *mut u16, levels_len: usize, sizes: *mut u16, sizes_len: usize, numbers: *mut u16, numbers_len: usize,
-    ) -> Answer;
-    fn planner_check_sheet(
-        starts: *const u16, starts_len: usize, links: *const u16, links_len: usize, anchored: *const u8, anchored_len: usize,
-        levels: *const u16, levels_len: usize, layers: *const u16, layers_len: usize,
-    ) -> Answer;
-    fn planner_followers(
-        starts: *const u16, starts_len: usize, links: *const u16, links_len: usize, anchored: *const u8, anchored_len: usize,
-        levels: *const u16, levels_len: usize, layers: *const u16, layers_len: usize, x: usize, marks: *mut u8, marks_len: usize,
-    ) -> Answer;
+    fn done(self) -> Result<(), Refusal> {
+        self.result().map(|_| ())
+    }
 }
 
 /// A table and the anchored bytes.
@@ -53,59 +32,113 @@ pub struct Input<'a> {
     pub anchored: &'a [u8],
 }
 
+/// What a session fills: six slices of a number for each vertex, three of a number for each request.
+#[derive(Clone, PartialEq, Eq, Debug, Default)]
+pub struct Record {
+    pub anchored: Vec<u8>,
+    pub levels: Vec<u16>,
+    pub layers: Vec<u16>,
+    pub components: Vec<u16>,
+    pub followers: Vec<u16>,
+    pub stamps: Vec<u16>,
+    pub status: Vec<u16>,
+    pub lifted: Vec<u16>,
+    pub redone: Vec<u16>,
+}
+
+impl Record {
+    /// Room for n vertices and m requests.
+    pub fn room(n: usize, m: usize) -> Record {
+        let (vertices, requests) = (vec![0; n], vec![0; m]);
+        Record {
+            anchored: vec![0; n],
+            levels: vertices.clone(),
+            layers: vertices.clone(),
+            components: vertices.clone(),
+            followers: vertices.clone(),
+            stamps: vertices,
+            status: requests.clone(),
+            lifted: requests.clone(),
+            redone: requests,
+        }
+    }
+}
+
 /// The check of a table.
 pub fn check(starts: &[u16], links: &[u16]) -> Result<(), Refusal> {
-    unsafe { planner_check(starts.as_ptr(), starts.len(), links.as_ptr(), links.len()) }.result().map(|_| ())
+    unsafe { exports::planner_check(starts.as_ptr(), starts.len(), links.as_ptr(), links.len()) }.done()
 }
 
 /// Levels, layers and components.
 pub fn work(input: Input, levels: &mut [u16], layers: &mut [u16], components: &mut [u16]) -> Result<(), Refusal> {
     let Input { starts, links, anchored } = input;
     unsafe {
-        planner_work(
+        exports::planner_work(
             starts.as_ptr(), starts.len(), links.as_ptr(), links.len(), anchored.as_ptr(), anchored.len(),
             levels.as_mut_ptr(), levels.len(), layers.as_mut_ptr(), layers.len(), components.as_mut_ptr(), components.len(),
         )
     }
-    .result()
-    .map(|_| ())
+    .done()
 }
 
 /// The component list: how many entries were written.
 pub fn list_components(input: Input, levels: &mut [u16], sizes: &mut [u16], numbers: &mut [u16]) -> Result<usize, Refusal> {
     let Input { starts, links, anchored } = input;
     unsafe {
-        planner_list_components(
+        exports::planner_list_components(
             starts.as_ptr(), starts.len(), links.as_ptr(), links.len(), anchored.as_ptr(), anchored.len(),
             levels.as_mut_ptr(), levels.len(), sizes.as_mut_ptr(), sizes.len(), numbers.as_mut_ptr(), numbers.len(),
         )
     }
     .result()
-    .map(|(count, _)| count as usize)
+    .map(|(count, _)| count)
 }
 
 /// The check of a level sheet.
 pub fn check_sheet(input: Input, levels: &[u16], layers: &[u16]) -> Result<(), Refusal> {
     let Input { starts, links, anchored } = input;
     unsafe {
-        planner_check_sheet(
+        exports::planner_check_sheet(
             starts.as_ptr(), starts.len(), links.as_ptr(), links.len(), anchored.as_ptr(), anchored.len(),
             levels.as_ptr(), levels.len(), layers.as_ptr(), layers.len(),
         )
     }
-    .result()
-    .map(|_| ())
+    .done()
 }
 
 /// The follower search: count lifted, count reached.
 pub fn followers(input: Input, levels: &[u16], layers: &[u16], x: usize, marks: &mut [u8]) -> Result<(usize, usize), Refusal> {
     let Input { starts, links, anchored } = input;
     unsafe {
-        planner_followers(
+        exports::planner_followers(
             starts.as_ptr(), starts.len(), links.as_ptr(), links.len(), anchored.as_ptr(), anchored.len(),
             levels.as_ptr(), levels.len(), layers.as_ptr(), layers.len(), x, marks.as_mut_ptr(), marks.len(),
         )
     }
     .result()
-    .map(|(lifted, reached)| (lifted as usize, reached as usize))
+}
+
+/// A session: the input's bytes are those at the start, the record's those at the end.
+pub fn run(input: Input, requests: &[u16], record: &mut Record) -> Result<(), Refusal> {
+    let Input { starts, links, anchored: given } = input;
+    let Record { anchored, levels, layers, components, followers, stamps, status, lifted, redone } = record;
+    unsafe {
+        exports::planner_run(
+            starts.as_ptr(), starts.len(), links.as_ptr(), links.len(), given.as_ptr(), given.len(), requests.as_ptr(), requests.len(),
+            anchored.as_mut_ptr(), anchored.len(), levels.as_mut_ptr(), levels.len(), layers.as_mut_ptr(), layers.len(),
+            components.as_mut_ptr(), components.len(), followers.as_mut_ptr(), followers.len(), stamps.as_mut_ptr(), stamps.len(),
+            status.as_mut_ptr(), status.len(), lifted.as_mut_ptr(), lifted.len(), redone.as_mut_ptr(), redone.len(),
+        )
+    }
+    .done()
+}
+
+/// From a text to the answer sheet: the sheet's length. Bytes past it, and at a refusal all, stay.
+#[cfg(feature = "text")]
+pub fn text_to_sheet(text: &[u8], sheet: &mut [u8]) -> Result<usize, Refusal> {
+    let answer = unsafe { exports::planner_text_to_sheet(text.as_ptr(), text.len(), sheet.as_mut_ptr(), sheet.len()) };
+    match answer.number {
+        0 => Ok(answer.value as usize),
+        number => Err(Refusal { number, place: answer.value }),
+    }
 }

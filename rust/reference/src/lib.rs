@@ -1,6 +1,8 @@
 //! The anchored core worked out naively from document 01's sentences: cores by repeated deletion, lifts by a second working,
 //! sessions with everything fresh. Nothing here follows the planner's own code.
 
+pub mod quick;
+
 use std::collections::BTreeSet;
 
 /// A refusal: number and place.
@@ -305,6 +307,13 @@ pub fn choice(graph: &Graph, anchored: &[bool]) -> Option<usize> {
     free.into_iter().find(|&v| follower_count(graph, anchored, v) == best)
 }
 
+/// One line of the answer sheet.
+fn line(round: usize, chosen: Option<usize>, up: &[bool], rows: usize) -> String {
+    let name = chosen.map_or("----".to_string(), |x| format!("{x:04}"));
+    let marks: String = up.iter().map(|&b| if b { '+' } else { '.' }).collect();
+    format!("(round {round:02} (retain {name}) (marks {marks}) (redone {rows:04}))\n")
+}
+
 /// The lines of the answer sheet.
 pub fn rounds(graph: &Graph, start: &[bool], count: usize) -> Vec<u8> {
     let mut set = start.to_vec();
@@ -316,14 +325,10 @@ pub fn rounds(graph: &Graph, start: &[bool], count: usize) -> Vec<u8> {
                 let mut next = set.clone();
                 next[x] = true;
                 let rows = recomputed(graph, &set, &next).iter().filter(|&&b| b).count();
-                let marks: String = up.iter().map(|&b| if b { '+' } else { '.' }).collect();
-                out.push_str(&format!("(round {r:02} (retain {x:04}) (marks {marks}) (redone {rows:04}))\n"));
+                out.push_str(&line(r, Some(x), &up, rows));
                 set = next;
             }
-            None => {
-                let marks = ".".repeat(graph.size());
-                out.push_str(&format!("(round {r:02} (retain ----) (marks {marks}) (redone 0000))\n"));
-            }
+            None => out.push_str(&line(r, None, &vec![false; graph.size()], 0)),
         }
     }
     out.into_bytes()
@@ -383,8 +388,17 @@ pub fn read(text: &[u8]) -> Result<Said, u64> {
     Ok(Said { lists, anchored, rounds })
 }
 
-/// The text-to-sheet call: 17, 18, 2, 3, 5, 6, 7, 8, 11, 12, 15.
-pub fn text_to_sheet(text: &[u8], room: usize) -> Result<Vec<u8>, Refusal> {
+/// What the rounds of an accepted text start from.
+pub struct Admitted {
+    pub starts: Vec<u16>,
+    pub links: Vec<u16>,
+    pub graph: Graph,
+    pub anchored: Vec<bool>,
+    pub rounds: usize,
+}
+
+/// The refusals of a text: 17, 18, 2, 3, 5, 6, 7, 8, 11, 12, 15.
+pub fn admit_text(text: &[u8], room: usize) -> Result<Admitted, Refusal> {
     if text.len() > 65536 {
         return Err((17, 0));
     }
@@ -411,9 +425,14 @@ pub fn text_to_sheet(text: &[u8], room: usize) -> Result<Vec<u8>, Refusal> {
     if let Some(&request) = said.anchored.iter().find(|&&v| v as usize >= n) {
         return Err((15, request as u64));
     }
-    let mut start = vec![false; n];
+    let mut anchored = vec![false; n];
     for &v in &said.anchored {
-        start[v as usize] = true;
+        anchored[v as usize] = true;
     }
-    Ok(rounds(&graph, &start, said.rounds as usize))
+    Ok(Admitted { starts, links, graph, anchored, rounds: said.rounds as usize })
+}
+
+/// The text-to-sheet call.
+pub fn text_to_sheet(text: &[u8], room: usize) -> Result<Vec<u8>, Refusal> {
+    admit_text(text, room).map(|a| rounds(&a.graph, &a.anchored, a.rounds))
 }

@@ -1,0 +1,17 @@
+use mathlib.Core.Path.{ap, _∙_}
+use Rattle.planner_c.specs.Answers.{checkedAs}
+use borrow.Author.Needs.{needs}
+use Rattle.planner_c.proofs.tables.planner_check.Statement.{statement}
+use Rattle.planner_c.proofs.tables.planner_check.Tie as tie
+
+check-requires : tie.Need-check-requires
+check-requires c κs = search needs
+
+of-checked-requires : tie.Need-of-checked-requires
+of-checked-requires c κs = search needs
+
+returns : tie.Need-returns
+returns c = c .of-checked .ensures ∙ ap checkedAs (c .before .check .ensures)
+
+pub planner-check-spec : {M : Type 1} → statement M
+planner-check-spec = tie.close (tie.spec check-requires of-checked-requires returns)

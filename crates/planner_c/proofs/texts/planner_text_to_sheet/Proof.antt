@@ -1,0 +1,31 @@
+use mathlib.Core.Path.{_≡_, ap, _∙_}
+use mathlib.Core.List.{List}
+use Prim.Native.Nat.{ℕ}
+use Rattle.answer.specs.declared.call.Answered.{Answered}
+use Rattle.answer.specs.Answer.{lent}
+use Rattle.planner_c.specs.Answers.{answeredAs}
+use borrow.Author.Needs.{needs}
+use Rattle.planner_c.proofs.texts.planner_text_to_sheet.Statement.{statement}
+use Rattle.planner_c.proofs.texts.planner_text_to_sheet.Tie as tie
+
+text-to-sheet-requires : tie.Need-text-to-sheet-requires
+text-to-sheet-requires c κs = search needs
+
+of-answered-requires : tie.Need-of-answered-requires
+of-answered-requires c κs = search needs
+
+same-length : tie.Need-same-length
+same-length c = search needs
+
+-- lent bytes by an answer, said of the answer's definition
+lent-as : {r s : Answered} {now : List ℕ} (sheet old : List ℕ) → r ≡ s → now ≡ lent r sheet old → now ≡ lent s sheet old
+lent-as sheet old e h = h ∙ ap (λ x. lent x sheet old) e
+
+returns : tie.Need-returns
+returns c =
+    let w = c .before .before .before .text-to-sheet .ensures in
+    (c .of-answered .ensures ∙ ap answeredAs (w .0), lent-as _ _ (w .0) (w .1))
+
+pub planner-text-to-sheet-spec : {M : Type 1} → statement M
+planner-text-to-sheet-spec =
+    tie.close (tie.spec text-to-sheet-requires of-answered-requires same-length returns)

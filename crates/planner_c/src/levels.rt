@@ -1,0 +1,96 @@
+// Levels, layers, components; the check of a sheet; the search.
+ghost use mathlib.Core.Path.{_≡_};
+ghost use lib.ListN.{length};
+ghost use Rattle.finite.specs.Count.{tabulate};
+ghost use Rattle.table.specs.Table.{vertices};
+ghost use Rattle.anchored.specs.Core.{level, layer};
+ghost use Rattle.anchored.specs.Component.{component};
+ghost use Rattle.anchored.specs.Followers.{mark};
+ghost use Rattle.level.specs.Input.{graphOf, anchoredBy};
+ghost use Rattle.level.specs.SheetCheck.{checkSheetOf};
+ghost use Rattle.level.specs.Answers.{workOf, written, listOf, Holding, followersOf, marked};
+ghost use Rattle.planner_c.specs.Answers.{checkedAs, listedAs, searchedAs};
+use super::numbers::Answer;
+
+#[no_mangle]
+pub extern "C" fn planner_work(
+    starts: &[u16],
+    links: &[u16],
+    anchored: &[u8],
+    levels: &mut [u16],
+    layers: &mut [u16],
+    components: &mut [u16],
+) -> Answer
+    ensures answer { λ r. ⌜ r ≡ checkedAs (workOf (now (starts .entry)) (now (links .entry)) (now (anchored .entry)) (length (now (levels .entry))) (length (now (layers .entry))) (length (now (components .entry)))) ⌝ }
+    ensures levels { λ r. ⌜ now (levels .exit) ≡ written (workOf (now (starts .entry)) (now (links .entry)) (now (anchored .entry)) (length (now (levels .entry))) (length (now (layers .entry))) (length (now (components .entry)))) (tabulate (level (graphOf (now (starts .entry)) (now (links .entry))) (anchoredBy (now (anchored .entry)))) (vertices (now (starts .entry)))) (now (levels .entry)) ⌝ }
+    ensures layers { λ r. ⌜ now (layers .exit) ≡ written (workOf (now (starts .entry)) (now (links .entry)) (now (anchored .entry)) (length (now (levels .entry))) (length (now (layers .entry))) (length (now (components .entry)))) (tabulate (layer (graphOf (now (starts .entry)) (now (links .entry))) (anchoredBy (now (anchored .entry)))) (vertices (now (starts .entry)))) (now (layers .entry)) ⌝ }
+    ensures components { λ r. ⌜ now (components .exit) ≡ written (workOf (now (starts .entry)) (now (links .entry)) (now (anchored .entry)) (length (now (levels .entry))) (length (now (layers .entry))) (length (now (components .entry)))) (tabulate (component (graphOf (now (starts .entry)) (now (links .entry))) (anchoredBy (now (anchored .entry)))) (vertices (now (starts .entry)))) (now (components .entry)) ⌝ }
+{
+    super::numbers::of_checked(level::work::work(
+        starts,
+        links,
+        anchored,
+        levels,
+        layers,
+        components,
+    ))
+}
+
+#[no_mangle]
+pub extern "C" fn planner_list_components(
+    starts: &[u16],
+    links: &[u16],
+    anchored: &[u8],
+    levels: &mut [u16],
+    sizes: &mut [u16],
+    numbers: &mut [u16],
+) -> Answer
+    ensures answer { λ r. ⌜ r ≡ listedAs (listOf (now (starts .entry)) (now (links .entry)) (now (anchored .entry)) (length (now (levels .entry))) (length (now (sizes .entry))) (length (now (numbers .entry)))) ⌝ }
+    ensures slices { λ r. ⌜ Holding (graphOf (now (starts .entry)) (now (links .entry))) (anchoredBy (now (anchored .entry))) (listOf (now (starts .entry)) (now (links .entry)) (now (anchored .entry)) (length (now (levels .entry))) (length (now (sizes .entry))) (length (now (numbers .entry)))) (now (levels .entry)) (now (sizes .entry)) (now (numbers .entry)) (now (levels .exit)) (now (sizes .exit)) (now (numbers .exit)) ⌝ }
+{
+    super::numbers::of_listed(level::listing::list_components(
+        starts,
+        links,
+        anchored,
+        levels,
+        sizes,
+        numbers,
+    ))
+}
+
+#[no_mangle]
+pub extern "C" fn planner_check_sheet(
+    starts: &[u16],
+    links: &[u16],
+    anchored: &[u8],
+    levels: &[u16],
+    layers: &[u16],
+) -> Answer
+    ensures { λ r. ⌜ r ≡ checkedAs (checkSheetOf (now (starts .entry)) (now (links .entry)) (now (anchored .entry)) (now (levels .entry)) (now (layers .entry))) ⌝ }
+{
+    super::numbers::of_checked(level::sheet::check_sheet(starts, links, anchored, levels, layers))
+}
+
+#[no_mangle]
+pub extern "C" fn planner_followers(
+    starts: &[u16],
+    links: &[u16],
+    anchored: &[u8],
+    levels: &[u16],
+    layers: &[u16],
+    x: usize,
+    marks: &mut [u8],
+) -> Answer
+    ensures answer { λ r. ⌜ r ≡ searchedAs (followersOf (now (starts .entry)) (now (links .entry)) (now (anchored .entry)) (now (levels .entry)) (now (layers .entry)) x (length (now (marks .entry)))) ⌝ }
+    ensures marks { λ r. ⌜ now (marks .exit) ≡ marked (followersOf (now (starts .entry)) (now (links .entry)) (now (anchored .entry)) (now (levels .entry)) (now (layers .entry)) x (length (now (marks .entry)))) (tabulate (mark (graphOf (now (starts .entry)) (now (links .entry))) (anchoredBy (now (anchored .entry))) x) (vertices (now (starts .entry)))) (now (marks .entry)) ⌝ }
+{
+    super::numbers::of_searched(level::followers::followers(
+        starts,
+        links,
+        anchored,
+        levels,
+        layers,
+        x,
+        marks,
+    ))
+}

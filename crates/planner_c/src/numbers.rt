@@ -1,0 +1,68 @@
+// The numbers of an answer, as Rust and C get them.
+ghost use mathlib.Core.Path.{_≡_};
+ghost use Rattle.planner_c.specs.Answers.{checkedAs, listedAs, searchedAs};
+
+// 0 and the values of an accepted call, or a refusal's number and place.
+#[repr(C)]
+pub struct Answer {
+    pub number: u64,
+    pub first: u64,
+    pub second: u64,
+}
+
+pub fn of_checked(checked: table::Checked) -> Answer
+    ensures { λ r. ⌜ r ≡ checkedAs checked ⌝ }
+{
+    match checked {
+        table::Checked::Sound => Answer {
+            number: 0,
+            first: 0,
+            second: 0,
+        },
+        table::Checked::Refused(refusal) => {
+            Answer {
+                number: refusal.number as u64,
+                first: refusal.place as u64,
+                second: 0,
+            }
+        }
+    }
+}
+
+pub fn of_listed(listed: level::listing::Listed) -> Answer
+    ensures { λ r. ⌜ r ≡ listedAs listed ⌝ }
+{
+    match listed {
+        level::listing::Listed::Count(count) => Answer {
+            number: 0,
+            first: count as u64,
+            second: 0,
+        },
+        level::listing::Listed::Refused(refusal) => Answer {
+            number: refusal.number as u64,
+            first: refusal.place as u64,
+            second: 0,
+        },
+    }
+}
+
+pub fn of_searched(searched: level::followers::Searched) -> Answer
+    ensures { λ r. ⌜ r ≡ searchedAs searched ⌝ }
+{
+    match searched {
+        level::followers::Searched::Found(lifted, reached) => {
+            Answer {
+                number: 0,
+                first: lifted as u64,
+                second: reached as u64,
+            }
+        }
+        level::followers::Searched::Refused(refusal) => {
+            Answer {
+                number: refusal.number as u64,
+                first: refusal.place as u64,
+                second: 0,
+            }
+        }
+    }
+}

@@ -1,0 +1,229 @@
+//! What is measured. Both sides of a line run on the same pool, one after the other.
+
+use planner::{Input, Record};
+use pools::{Pool, Random};
+use reference::quick::{self, Cores};
+use std::hint::black_box;
+use std::time::Instant;
+
+/// One comparison: what was measured against what, in microseconds for each seed.
+pub struct Line {
+    pub ours: String,
+    pub theirs: String,
+    pub times: Vec<(f64, f64)>,
+}
+
+impl Line {
+    fn new(ours: &str, theirs: &str) -> Line {
+        Line { ours: ours.into(), theirs: theirs.into(), times: vec![] }
+    }
+}
+
+pub fn median(mut times: Vec<f64>) -> f64 {
+    times.sort_by(f64::total_cmp);
+    times[times.len() / 2]
+}
+
+fn time(call: &mut dyn FnMut()) -> f64 {
+    let start = Instant::now();
+    call();
+    start.elapsed().as_secs_f64() * 1e6
+}
+
+/// The least time of each call, in microseconds; the calls take turns.
+fn times<const N: usize>(repeats: usize, mut calls: [&mut dyn FnMut(); N]) -> [f64; N] {
+    let mut least = [f64::MAX; N];
+    for _ in 0..repeats {
+        for (i, call) in calls.iter_mut().enumerate() {
+            least[i] = least[i].min(time(call));
+        }
+    }
+    least
+}
+
+/// 1,000 vertices and 5,000 random edges, none anchored.
+fn thousand(seed: u64) -> Pool {
+    Pool::random(&mut Random(seed * 7919), 1000, 5000)
+}
+
+fn input(pool: &Pool) -> Input<'_> {
+    Input { starts: &pool.starts, links: &pool.links, anchored: &pool.anchored }
+}
+
+fn plain(pool: &Pool) -> quick::Pool<'_> {
+    quick::Pool { starts: &pool.starts, links: &pool.links }
+}
+
+/// Levels, layers and components as the planner works them out.
+struct Sheet {
+    levels: Vec<u16>,
+    layers: Vec<u16>,
+    components: Vec<u16>,
+}
+
+impl Sheet {
+    fn room(n: usize) -> Sheet {
+        Sheet { levels: vec![0; n], layers: vec![0; n], components: vec![0; n] }
+    }
+
+    fn work(&mut self, pool: &Pool) {
+        planner::work(input(pool), &mut self.levels, &mut self.layers, &mut self.components).unwrap();
+    }
+}
+
+pub fn working(seeds: &[u64]) -> Vec<Line> {
+    let work = "fresh working: table check, levels, layers, components";
+    let mut lines = [
+        Line::new(work, "plain Rust: core numbers by buckets, nothing else"),
+        Line::new(work, "plain Rust: levels by buckets, layers, components, no check"),
+        Line::new("table check", "plain Rust: core numbers by buckets, nothing else"),
+    ];
+    for &seed in seeds {
+        let pool = thousand(seed);
+        let (mut cores, none, mut sheet) = (Cores::default(), vec![false; pool.size()], Sheet::room(pool.size()));
+        let [ours, levels, all, check] = times(
+            301,
+            [
+                &mut || sheet.work(&pool),
+                &mut || {
+                    black_box(cores.work(black_box(plain(&pool)), &none));
+                },
+                &mut || drop(black_box(quick::sheet(black_box(plain(&pool)), &none))),
+                &mut || planner::check(&pool.starts, &pool.links).unwrap(),
+            ],
+        );
+        assert_eq!(cores.work(plain(&pool), &none), sheet.levels);
+        lines[0].times.push((ours, levels));
+        lines[1].times.push((ours, all));
+        lines[2].times.push((check, levels));
+    }
+    lines.into()
+}
+
+pub fn search(seeds: &[u64]) -> Vec<Line> {
+    let alone = "one search without checks: a session of no names, less one fresh working, divided by the vertices";
+    let mut lines = [
+        Line::new("one search with its checks of table and sheet, average over all x", "the planner's fresh working"),
+        Line::new(alone, "the planner's fresh working"),
+        Line::new(alone, "plain Rust: core numbers by buckets with x anchored, average over all x"),
+    ];
+    for &seed in seeds {
+        let pool = thousand(seed);
+        let n = pool.size();
+        let (mut sheet, mut marks, mut record) = (Sheet::room(n), vec![0u8; n], Record::room(n, 0));
+        let [fresh] = times(101, [&mut || sheet.work(&pool)]);
+        let mut counts = vec![];
+        let [searches, start, cores] = times(
+            7,
+            [
+                &mut || {
+                    for x in 0..n {
+                        planner::followers(input(&pool), &sheet.levels, &sheet.layers, x, &mut marks).unwrap();
+                    }
+                },
+                &mut || planner::run(input(&pool), &[], &mut record).unwrap(),
+                &mut || counts = quick::follower_counts(plain(&pool), &vec![false; n]),
+            ],
+        );
+        assert_eq!(record.followers, counts);
+        let alone = (start - fresh) / n as f64;
+        lines[0].times.push((searches / n as f64, fresh));
+        lines[1].times.push((alone, fresh));
+        lines[2].times.push((alone, cores / n as f64));
+    }
+    lines.into()
+}
+
+/// How far the searches of each seed reach, which their times follow.
+pub fn reached(seeds: &[u64]) -> String {
+    let average = |&seed: &u64| {
+        let pool = thousand(seed);
+        let n = pool.size();
+        let (mut sheet, mut marks) = (Sheet::room(n), vec![0u8; n]);
+        sheet.work(&pool);
+        let all: usize =
+            (0..n).map(|x| planner::followers(input(&pool), &sheet.levels, &sheet.layers, x, &mut marks).unwrap().1).sum();
+        format!("{:.0}", all as f64 / n as f64)
+    };
+    let averages: Vec<String> = seeds.iter().map(average).collect();
+    format!("A search's time follows how many it reaches: on average, seed by seed, {} vertices.\n", averages.join(", "))
+}
+
+/// Every row afresh: the sheet, and a working of all levels for each vertex not anchored.
+fn fresh_rows(pool: &Pool, set: &[bool]) -> Vec<u16> {
+    black_box(quick::sheet(plain(pool), set));
+    quick::follower_counts(plain(pool), set)
+}
+
+/// A session by fresh rows at the start and after each name; the follower counts at the end.
+fn fresh_session(pool: &Pool, names: &[u16]) -> Vec<u16> {
+    let mut set = vec![false; pool.size()];
+    let mut counts = fresh_rows(pool, &set);
+    for &x in names {
+        set[x as usize] = true;
+        counts = fresh_rows(pool, &set);
+    }
+    counts
+}
+
+/// The plain side serves this many names of a session, and works the rows after each 50th: all of them would take minutes.
+const FEW: usize = 25;
+
+pub fn session(seeds: &[u64]) -> Vec<Line> {
+    let on = "session on 1,024 vertices, 5,000 edges";
+    let mut lines = [
+        Line::new(&format!("{on}: the first {FEW} of 1,000 names"), &format!("plain Rust: the same {FEW} names, every row afresh after each")),
+        Line::new(&format!("{on}: one name, average over all 1,000"), "plain Rust: every row afresh after one name, average over each 50th of the 1,000 (the others not run)"),
+    ];
+    for &seed in seeds {
+        let mut random = Random(seed * 104729);
+        let pool = Pool::random(&mut random, 1024, 5000);
+        let mut names: Vec<u16> = (0..1024).collect();
+        random.shuffle(&mut names);
+        names.truncate(1000);
+        let (mut record, mut whole, mut counts) = (Record::room(1024, FEW), Record::room(1024, 1000), vec![]);
+        let few = times(
+            3,
+            [
+                &mut || planner::run(input(&pool), &names[..FEW], &mut record).unwrap(),
+                &mut || counts = fresh_session(&pool, &names[..FEW]),
+            ],
+        );
+        assert_eq!(record.followers, counts);
+        let all = time(&mut || planner::run(input(&pool), &names, &mut whole).unwrap());
+        assert!(whole.status.iter().all(|&status| status == 0));
+        let (mut set, mut sampled) = (vec![false; 1024], vec![]);
+        for (i, &x) in names.iter().enumerate() {
+            set[x as usize] = true;
+            if i % 50 == 49 {
+                sampled.push(time(&mut || counts = fresh_rows(&pool, &set)));
+            }
+        }
+        assert_eq!(whole.followers, counts);
+        lines[0].times.push((few[0], few[1]));
+        lines[1].times.push((all / 1000.0, sampled.iter().sum::<f64>() / sampled.len() as f64));
+    }
+    lines.into()
+}
+
+#[cfg(feature = "text")]
+pub fn rounds(seeds: &[u64]) -> Vec<Line> {
+    let mut line = Line::new(
+        "text to sheet: 1,000 vertices, 5,000 edges, 20 rounds",
+        "plain Rust: the same text to the same sheet, all levels afresh by buckets for each vertex in each round",
+    );
+    for &seed in seeds {
+        let text = thousand(seed).text(20);
+        let (mut sheet, mut length, mut expected) = (vec![0; 64320], 0, vec![]);
+        let [ours, theirs] = times(
+            3,
+            [
+                &mut || length = planner::text_to_sheet(&text, &mut sheet).unwrap(),
+                &mut || expected = quick::text_to_sheet(&text, 64320).unwrap(),
+            ],
+        );
+        assert!(sheet[..length] == expected);
+        line.times.push((ours, theirs));
+    }
+    vec![line]
+}

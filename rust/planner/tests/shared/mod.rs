@@ -1,0 +1,61 @@
+//! What the tests of all operations share; each of them uses some of it.
+#![allow(dead_code)]
+
+use planner::{Input, Refusal};
+use pools::Pool;
+
+pub fn input(pool: &Pool) -> Input<'_> {
+    Input { starts: &pool.starts, links: &pool.links, anchored: &pool.anchored }
+}
+
+pub fn refusal((number, place): reference::Refusal) -> Refusal {
+    Refusal { number: number as u64, place }
+}
+
+/// A slice's contents that no answer gives by chance.
+pub fn held(len: usize, salt: u16) -> Vec<u16> {
+    (0..len).map(|i| 40000 + salt * 1100 + i as u16).collect()
+}
+
+/// Pools that break a rule of the table or of the bytes, each with its refusal.
+pub fn broken() -> Vec<(Pool, Refusal)> {
+    let pool = |starts: &[u16], links: &[u16], anchored: &[u8]| Pool {
+        starts: starts.to_vec(),
+        links: links.to_vec(),
+        anchored: anchored.to_vec(),
+    };
+    let chain = pool(&[0, 1, 3, 5, 6], &[1, 0, 2, 1, 3, 2], &[0; 4]);
+    let with_links = |links: &[u16]| Pool { links: links.to_vec(), ..chain.clone() };
+    let with_starts = |starts: &[u16]| Pool { starts: starts.to_vec(), ..chain.clone() };
+    let with_bytes = |anchored: &[u8]| Pool { anchored: anchored.to_vec(), ..chain.clone() };
+    let cases = [
+        (pool(&[], &[], &[]), 1, 0),
+        (pool(&[], &[7], &[1]), 1, 0),
+        (pool(&[0; 1026], &[], &[0; 1025]), 2, 0),
+        (pool(&[0; 2], &[0; 16385], &[0]), 3, 0),
+        (with_starts(&[1, 1, 3, 5, 6]), 4, 0),
+        (with_starts(&[0, 3, 1, 5, 6]), 4, 2),
+        (with_starts(&[0, 1, 3, 5, 5]), 4, 4),
+        (pool(&[1], &[], &[]), 4, 0),
+        (with_links(&[1, 0, 2, 1, 4, 2]), 5, 2),
+        (with_links(&[1, 0, 2, 1, 3, 65535]), 5, 3),
+        (with_links(&[1, 0, 1, 1, 3, 2]), 6, 1),
+        (with_links(&[1, 0, 2, 3, 1, 2]), 7, 2),
+        (with_links(&[1, 0, 0, 1, 3, 2]), 7, 1),
+        (with_links(&[1, 0, 3, 1, 3, 2]), 8, 1),
+        (pool(&[0, 0, 1], &[0], &[0; 2]), 8, 1),
+        (with_bytes(&[0; 3]), 9, 0),
+        (with_bytes(&[0; 5]), 9, 0),
+        (with_bytes(&[0, 1, 2, 3]), 10, 2),
+        // two at once: the lower number is told
+        (pool(&[0; 1026], &[0; 16385], &[]), 2, 0),
+        (pool(&[1; 2], &[0; 16385], &[0]), 3, 0),
+        (Pool { links: vec![9; 6], ..with_starts(&[0, 3, 1, 5, 6]) }, 4, 2),
+        (with_links(&[0, 0, 2, 1, 9, 2]), 5, 2),
+        (with_links(&[1, 2, 0, 1, 2, 2]), 6, 2),
+        (with_links(&[2, 0, 2, 3, 1, 2]), 7, 2),
+        (Pool { anchored: vec![2; 3], ..with_links(&[1, 0, 3, 1, 3, 2]) }, 8, 1),
+        (with_bytes(&[2; 5]), 9, 0),
+    ];
+    cases.into_iter().map(|(pool, number, place)| (pool, Refusal { number, place })).collect()
+}
