@@ -1,6 +1,6 @@
 // The follower search as an operation: it tests its input, then marks the candidates and the followers of a vertex.
 ghost use mathlib.Core.Path.{_≡_};
-ghost use Prim.Native.Nat.{_≤_, _<_};
+ghost use Prim.Native.Nat.{_<_};
 ghost use lib.ListN.{length, getD};
 ghost use Rattle.finite.specs.Count.{tabulate};
 ghost use Rattle.table.specs.Table.{vertices};
@@ -68,18 +68,6 @@ fn test_search(
     }
 }
 
-// Copies as many marks as the slice has places.
-fn copy(from: &[u8; 1024], to: &mut [u8])
-    requires { ⌜ length (now to) ≤ 1024 ⌝ }
-    ensures { λ _. ⌜ now (to .exit) ≡ tabulate (λ v. getD (now (from .entry)) v 0) (length (now (to .entry))) ⌝ }
-{
-    let mut v: usize = 0;
-    while v < to.len() {
-        to[v] = from[v];
-        v += 1;
-    }
-}
-
 // The search from x, which is not anchored, on the defined sheet.
 fn write_marks(
     starts: &[u16],
@@ -99,7 +87,7 @@ fn write_marks(
 {
     let mut mark = [0u8; 1024];
     let found = crate::search::search(starts, links, anchored, levels, layers, x, &mut mark);
-    copy(&mark, marks);
+    crate::lent::copy_bytes(&mark, marks);
     Searched::Found(found.lifted, found.reached)
 }
 

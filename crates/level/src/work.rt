@@ -1,9 +1,6 @@
 // Working the sheet of a table: levels, layers and components into slices of n.
 ghost use mathlib.Core.Path.{_≡_};
-ghost use mathlib.Core.Bool.{_&&_};
-ghost use Prim.Native.Nat.{_≤_};
-ghost use lib.ListN.{length, getD};
-ghost use lib.Dec.{eqb};
+ghost use lib.ListN.{length};
 ghost use Rattle.finite.specs.Count.{tabulate};
 ghost use Rattle.table.specs.Table.{vertices};
 ghost use Rattle.anchored.specs.Core.{level as levelOf, layer as layerOf};
@@ -11,13 +8,6 @@ ghost use Rattle.anchored.specs.Component.{component as componentOf};
 ghost use Rattle.level.specs.Input.{graphOf, anchoredBy, Admitted};
 ghost use Rattle.level.specs.Arrays.{Holds};
 ghost use Rattle.level.specs.Answers.{workOf, written};
-
-// Whether three slices are of n.
-fn are_of(n: usize, first: usize, second: usize, third: usize) -> bool
-    ensures { λ r. ⌜ r ≡ eqb first n && eqb second n && eqb third n ⌝ }
-{
-    first == n && second == n && third == n
-}
 
 // Refusals 1 to 10, and 12 for three slices that are not all of n, or `Sound`.
 pub fn admit_slices(
@@ -34,23 +24,11 @@ pub fn admit_slices(
     match admitted {
         table::Checked::Refused(refusal) => table::Checked::Refused(refusal),
         table::Checked::Sound => {
-            if are_of(starts.len() - 1, first, second, third) {
+            if crate::lent::are_of(starts.len() - 1, first, second, third) {
                 return table::Checked::Sound;
             }
             table::refused(12, 0)
         }
-    }
-}
-
-// Copies as many numbers as the slice has places.
-fn copy(from: &[u16; 1024], to: &mut [u16])
-    requires { ⌜ length (now to) ≤ 1024 ⌝ }
-    ensures { λ _. ⌜ now (to .exit) ≡ tabulate (λ v. getD (now (from .entry)) v 0) (length (now (to .entry))) ⌝ }
-{
-    let mut v: usize = 0;
-    while v < to.len() {
-        to[v] = from[v];
-        v += 1;
     }
 }
 
@@ -100,9 +78,9 @@ fn write_sheet(
         &mut layer,
         &mut component,
     );
-    copy(&level, levels);
-    copy(&layer, layers);
-    copy(&component, components);
+    crate::lent::copy(&level, levels);
+    crate::lent::copy(&layer, layers);
+    crate::lent::copy(&component, components);
 }
 
 // Levels, layers and components of a table with anchored vertices; a refusal leaves the slices as they are.

@@ -21,10 +21,11 @@ use Rattle.anchored.specs.Followers.{followerCount}
 use Rattle.anchored.specs.Session.{Plain, Row, after, turn, rowOf}
 use Rattle.level.specs.Input.{graphOf, anchoredBy, admitOf}
 use Rattle.level.specs.Arrays.{Holds}
+use Rattle.level.specs.Answers.{threeOf}
 use Rattle.level.proofs.Laws.{went-through, admitted}
 use Rattle.session.specs.Record.{Right, plainOf, rowAs}
 use Rattle.session.specs.Rows.{Stands}
-use Rattle.session.specs.Run.{threeOf, runOf, sessionOf, rowAt, Ready}
+use Rattle.session.specs.Run.{runOf, sessionOf, rowAt, Ready}
 use Rattle.session.proofs.Steps.{stands-row, stands-more}
 
 -- a slice of one number for each request has those of the first i, and after them what it had

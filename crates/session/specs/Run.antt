@@ -1,19 +1,16 @@
 -- The session over a list of requests: its answer, and what its lent slices hold afterwards.
 use mathlib.Core.Path.{_≡_}
-use mathlib.Core.Bool.{Bool, cond, _&&_}
+use mathlib.Core.Bool.{cond, _&&_}
 use mathlib.Core.List.{List}
 use Prim.Native.Nat.{ℕ, _≤_}
 use lib.ListN.{length, getD}
-use lib.Dec.{ltb, eqb}
+use lib.Dec.{ltb}
 use Rattle.table.specs.Table.{vertices, refused}
 use Rattle.table.specs.declared.Checked.{Checked}
 use Rattle.table.specs.declared.Checked.the-variants.{Sound, Refused}
 use Rattle.anchored.specs.Session.{Plain, Row, rowOf, after}
 use Rattle.level.specs.Input.{graphOf, anchoredBy, admitOf, Admitted}
-
--- three lengths are n
-abbrev pub threeOf : ℕ → ℕ → ℕ → ℕ → Bool
-threeOf n p q r = eqb p n && eqb q n && eqb r n
+use Rattle.level.specs.Answers.{threeOf}
 
 -- 1 to 10, then 11 for more than 4,096 requests, then 12 for a slice not of its length: six of n, three of m, the number of requests
 unfoldable pub runOf : List ℕ → List ℕ → List ℕ → ℕ → ℕ → ℕ → ℕ → ℕ → ℕ → ℕ → ℕ → ℕ → ℕ → Checked

@@ -1,41 +1,9 @@
-// Lent slices: their lengths, and what is copied into them.
+// What a record copies into lent slices.
 ghost use mathlib.Core.Path.{_≡_};
 ghost use Prim.Native.Nat.{_≤_};
 ghost use lib.ListN.{length, getD};
 ghost use Rattle.finite.specs.Count.{tabulate};
-ghost use Rattle.session.specs.Run.{threeOf};
 use super::record::Record;
-
-// Whether three lengths are n.
-pub fn are_of(n: usize, first: usize, second: usize, third: usize) -> bool
-    ensures { λ r. ⌜ r ≡ threeOf n first second third ⌝ }
-{
-    first == n && second == n && third == n
-}
-
-// Copies as many bytes as the slice has places.
-fn copy_bytes(from: &[u8; 1024], to: &mut [u8])
-    requires { ⌜ length (now to) ≤ 1024 ⌝ }
-    ensures { λ _. ⌜ now (to .exit) ≡ tabulate (λ v. getD (now (from .entry)) v 0) (length (now (to .entry))) ⌝ }
-{
-    let mut v: usize = 0;
-    while v < to.len() {
-        to[v] = from[v];
-        v += 1;
-    }
-}
-
-// Copies as many numbers as the slice has places.
-fn copy(from: &[u16; 1024], to: &mut [u16])
-    requires { ⌜ length (now to) ≤ 1024 ⌝ }
-    ensures { λ _. ⌜ now (to .exit) ≡ tabulate (λ v. getD (now (from .entry)) v 0) (length (now (to .entry))) ⌝ }
-{
-    let mut v: usize = 0;
-    while v < to.len() {
-        to[v] = from[v];
-        v += 1;
-    }
-}
 
 // Copies the sheet of a record out.
 pub fn copy_sheet(kept: Record, levels: &mut [u16], layers: &mut [u16], components: &mut [u16])
@@ -47,9 +15,9 @@ pub fn copy_sheet(kept: Record, levels: &mut [u16], layers: &mut [u16], componen
     let level = kept.level;
     let layer = kept.layer;
     let component = kept.component;
-    copy(&level, levels);
-    copy(&layer, layers);
-    copy(&component, components);
+    level::lent::copy(&level, levels);
+    level::lent::copy(&layer, layers);
+    level::lent::copy(&component, components);
 }
 
 // Copies its anchored bytes, follower counts and stamps out.
@@ -62,7 +30,7 @@ pub fn copy_rows(kept: Record, anchored: &mut [u8], followers: &mut [u16], stamp
     let bytes = kept.anchored;
     let counts = kept.followers;
     let stamp = kept.stamp;
-    copy_bytes(&bytes, anchored);
-    copy(&counts, followers);
-    copy(&stamp, stamps);
+    level::lent::copy_bytes(&bytes, anchored);
+    level::lent::copy(&counts, followers);
+    level::lent::copy(&stamp, stamps);
 }

@@ -110,13 +110,13 @@ fn admit(
             if 4096 < count {
                 return table::refused(11, 0);
             }
-            if !super::lent::are_of(n, anchored, levels, layers) {
+            if !level::lent::are_of(n, anchored, levels, layers) {
                 return table::refused(12, 0);
             }
-            if !super::lent::are_of(n, components, followers, stamps) {
+            if !level::lent::are_of(n, components, followers, stamps) {
                 return table::refused(12, 0);
             }
-            if !super::lent::are_of(count, status, lifted, redone) {
+            if !level::lent::are_of(count, status, lifted, redone) {
                 return table::refused(12, 0);
             }
             table::Checked::Sound

@@ -1,2 +1,3 @@
 pub mod Table
+pub mod Paired
 pub mod Cases

@@ -74,10 +74,6 @@ pub record Framed (s l : List ℕ) : Type 0 where
   pub step : (v : ℕ) → v < vertices s → getD s v 0 ≤ getD s (v + 1) 0
   pub within : (v : ℕ) → v ≤ vertices s → getD s v 0 ≤ length l
 
--- a place for each vertex, not before its first link
-abbrev pub Begun : List ℕ → List ℕ → Type 0
-Begun s next = (u : ℕ) → u < vertices s → getD s u 0 ≤ getD next u 0
-
 -- what the check promises of a sound table
 pub record SoundTable (s l : List ℕ) : Type 0 where
   pub framed : Framed s l

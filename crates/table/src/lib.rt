@@ -4,6 +4,7 @@ ghost use Prim.Native.Nat.{_<_};
 ghost use Rattle.table.specs.Table.{vertices, checkOf, Framed};
 ghost use Rattle.table.specs.Table.{neighbors as neighborsOf, refused as refusedOf};
 
+mod paired; // the one pass that a sound table passes
 mod part; // one vertex's neighbors
 mod rules; // the first start, or the first vertex, that breaks a rule
 
@@ -55,6 +56,9 @@ pub fn check(starts: &[u16], links: &[u16]) -> Checked
     if start < starts.len() {
         return refused(4, start);
     }
+    if paired::all_paired(starts, links) {
+        return Checked::Sound;
+    }
     let far = rules::first_breaking(starts, links, 5);
     if far < n {
         return refused(5, far);
@@ -67,7 +71,7 @@ pub fn check(starts: &[u16], links: &[u16]) -> Checked
     if unsorted < n {
         return refused(7, unsorted);
     }
-    let alone = rules::lowest_unreturned(starts, links);
+    let alone = rules::first_unreturned(starts, links);
     if alone < n {
         return refused(8, alone);
     }

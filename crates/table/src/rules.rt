@@ -1,10 +1,9 @@
 // The first start, or the lowest vertex, that breaks a rule of the table.
 ghost use mathlib.Core.Path.{_≡_};
-ghost use mathlib.Core.Bool.{true, false};
-ghost use Prim.Native.Nat.{ℕ, _≤_, _<_};
+ghost use Prim.Native.Nat.{_<_};
 ghost use lib.ListN.{length};
 ghost use Rattle.finite.specs.Search.{first, NoneBelow};
-ghost use Rattle.table.specs.Table.{vertices, badStart, beyond, unsorted, unreturned, breaks as breaksOf, Framed, Begun};
+ghost use Rattle.table.specs.Table.{vertices, badStart, beyond, unsorted, unreturned, breaks as breaksOf, Framed};
 
 // Whether start `i` is bad: not the number of links at the last, not 0 at the first, or below the one before.
 fn bad_start(starts: &[u16], links: &[u16], i: usize) -> bool
@@ -69,7 +68,7 @@ pub fn first_breaking(starts: &[u16], links: &[u16], rule: u16) -> usize
 }
 
 // The lowest vertex that a neighbor does not list, or n: the first missing return link leaves both loops.
-fn first_unreturned(starts: &[u16], links: &[u16]) -> usize
+pub fn first_unreturned(starts: &[u16], links: &[u16]) -> usize
     requires { ⌜ Framed (now starts) (now links) ⌝ }
     requires { ⌜ NoneBelow (beyond (now starts) (now links)) (vertices (now starts)) ⌝ }
     requires { ⌜ NoneBelow (unsorted (now starts) (now links)) (vertices (now starts)) ⌝ }
@@ -92,76 +91,4 @@ fn first_unreturned(starts: &[u16], links: &[u16]) -> usize
         }
         v += 1;
     }
-}
-
-// The place of each vertex's first link.
-fn first_places(starts: &[u16]) -> [u16; 1024]
-    requires { ⌜ (0 < length (now starts)) × (vertices (now starts) ≤ 1024) ⌝ }
-    ensures { λ r. ⌜ Begun (now (starts .entry)) r ⌝ }
-{
-    let n = starts.len() - 1;
-    let mut next = [0u16; 1024];
-    let mut v: usize = 0;
-    while v < n {
-        next[v] = starts[v];
-        v += 1;
-    }
-    next
-}
-
-// Whether v is the next link of each of its neighbors; the next of each is then the one behind it.
-fn returns_all(starts: &[u16], links: &[u16], v: usize, next: &mut [u16; 1024]) -> bool
-    requires { ⌜ Framed (now starts) (now links) ⌝ }
-    requires { ⌜ NoneBelow (beyond (now starts) (now links)) (vertices (now starts)) ⌝ }
-    requires { ⌜ (v < vertices (now starts)) × (vertices (now starts) ≤ 1024) × Begun (now starts) (now next) ⌝ }
-    ensures { λ r. ⌜ (r ≡ true → unreturned (now (starts .entry)) (now (links .entry)) v ≡ false) × Begun (now (starts .entry)) (now (next .exit)) ⌝ }
-{
-    let part = crate::neighbors(starts, links, v);
-    let mut j: usize = 0;
-    while j < part.len() {
-        let u = part[j] as usize;
-        let place = next[u];
-        if starts[u + 1] <= place {
-            return false;
-        }
-        if links[place as usize] as usize != v {
-            return false;
-        }
-        next[u] = place + 1;
-        j += 1;
-    }
-    true
-}
-
-// Whether every link is returned, in one pass: the vertices ascend, so where all are, each is the next link of its neighbors.
-fn all_returned(starts: &[u16], links: &[u16]) -> bool
-    requires { ⌜ Framed (now starts) (now links) ⌝ }
-    requires { ⌜ NoneBelow (beyond (now starts) (now links)) (vertices (now starts)) ⌝ }
-    requires { ⌜ vertices (now starts) ≤ 1024 ⌝ }
-    ensures { λ r. ⌜ (r ≡ true → NoneBelow (unreturned (now (starts .entry)) (now (links .entry))) (vertices (now (starts .entry)))) ⌝ }
-{
-    let n = starts.len() - 1;
-    let mut next = first_places(starts);
-    let mut v: usize = 0;
-    while v < n {
-        if !returns_all(starts, links, v, &mut next) {
-            return false;
-        }
-        v += 1;
-    }
-    true
-}
-
-// The lowest vertex that a neighbor does not list, or n. It is searched only where the one pass fails.
-pub fn lowest_unreturned(starts: &[u16], links: &[u16]) -> usize
-    requires { ⌜ Framed (now starts) (now links) ⌝ }
-    requires { ⌜ NoneBelow (beyond (now starts) (now links)) (vertices (now starts)) ⌝ }
-    requires { ⌜ NoneBelow (unsorted (now starts) (now links)) (vertices (now starts)) ⌝ }
-    requires { ⌜ vertices (now starts) ≤ 1024 ⌝ }
-    ensures { λ r. ⌜ r ≡ first (unreturned (now (starts .entry)) (now (links .entry))) (vertices (now (starts .entry))) ⌝ }
-{
-    if all_returned(starts, links) {
-        return starts.len() - 1;
-    }
-    first_unreturned(starts, links)
 }

@@ -6,10 +6,11 @@ use native.Mathlib.Omega.{arith}
 use lib.ListN.{length}
 use borrow.Author.Tests.{lt-ltb, le-ltb, eq-eqb, ne-eqb}
 use borrow.Author.Needs.{needs}
+use Rattle.finite.specs.Search.{NoneBelow}
 use Rattle.table.specs.Table.{vertices, badStart, beyond, looped, unsorted, unreturned, refuse, checkOf, Framed}
 use Rattle.table.specs.declared.Checked.{Checked}
 use Rattle.table.specs.declared.Checked.the-variants.{Sound}
-use Rattle.table.proofs.Laws.{framed, hit, pass, nothing}
+use Rattle.table.proofs.Laws.{framed, hit, pass, nothing, found-sound}
 use Rattle.table.proofs.check.Statement.{statement}
 use Rattle.table.proofs.check.Tie as tie
 
@@ -45,24 +46,28 @@ small c =
     let few-links = le-ltb 16384 (length (entry c .args .links .now)) (omega arith) in
     simp (some, few-vertices, few-links)
 
-started : (c : tie.Else4) → Left (c .before .before) from-range
-started c = small (c .before .before) ∙ pass 4 _ _ _ (nothing _ _ (c .before .first-bad-start .ensures) (c .if4 .left))
-
-ranged : (c : tie.Else5) → Left (c .before .before .before .before) from-loops
-ranged c = started (c .before .before) ∙ pass 5 _ _ _ (nothing _ _ (c .before .first-breaking .ensures) (c .if5 .left))
-
-loopless : (c : tie.Else6) → Left (c .before .before .before .before .before .before) from-order
-loopless c = ranged (c .before .before) ∙ pass 6 _ _ _ (nothing _ _ (c .before .first-breaking2 .ensures) (c .if6 .left))
-
-ordered : (c : tie.Else7) → Left (c .before .before .before .before .before .before .before .before) from-return
-ordered c = loopless (c .before .before) ∙ pass 7 _ _ _ (nothing _ _ (c .before .first-breaking3 .ensures) (c .if7 .left))
+-- no start is bad
+well-started : (c : tie.Else4) → let args = entry (c .before .before) .args in NoneBelow (badStart (args .starts .now) (args .links .now)) (length (args .starts .now))
+well-started c = nothing _ _ (c .before .first-bad-start .ensures) (c .if4 .left)
 
 frame : (c : tie.Else4) → let args = entry (c .before .before) .args in Framed (args .starts .now) (args .links .now)
-frame c =
-    let args = entry (c .before .before) .args in
-    let s = args .starts .now in
-    let l = args .links .now in
-    framed s l (omega arith) (nothing (badStart s l) (length s) (c .before .first-bad-start .ensures) (omega arith))
+frame c = let args = entry (c .before .before) .args in framed (args .starts .now) (args .links .now) (omega arith) (well-started c)
+
+-- not every link is paired: the searches look for the rule that is broken
+abbrev begun : tie.Else5 → tie.Else4
+begun c = c .before .before
+
+started : (c : tie.Else5) → Left (begun c .before .before) from-range
+started c = small (begun c .before .before) ∙ pass 4 _ _ _ (well-started (begun c))
+
+ranged : (c : tie.Else6) → Left (begun (c .before .before) .before .before) from-loops
+ranged c = started (c .before .before) ∙ pass 5 _ _ _ (nothing _ _ (c .before .first-breaking .ensures) (c .if6 .left))
+
+loopless : (c : tie.Else7) → Left (begun (c .before .before .before .before) .before .before) from-order
+loopless c = ranged (c .before .before) ∙ pass 6 _ _ _ (nothing _ _ (c .before .first-breaking2 .ensures) (c .if7 .left))
+
+ordered : (c : tie.Else8) → Left (begun (c .before .before .before .before .before .before) .before .before) from-return
+ordered c = loopless (c .before .before) ∙ pass 7 _ _ _ (nothing _ _ (c .before .first-breaking3 .ensures) (c .if8 .left))
 
 refused-requires : tie.Need-refused-requires
 refused-requires c κs = search needs
@@ -105,56 +110,62 @@ returns-4 c =
     let at = c .before in
     c .refused4 .ensures ∙ sym (small (at .before .before) ∙ hit 4 _ _ _ (at .before .first-bad-start .ensures) (at .if4 .taken))
 
+all-paired-requires : tie.Need-all-paired-requires
+all-paired-requires c κs = (frame c, (omega arith, omega arith))
+
+returns-5 : tie.Need-returns-5
+returns-5 c =
+    let at = c .before .before in
+    sym (found-sound _ _ (well-started at) (c .before .all-paired .ensures (c .if5 .taken)))
+
 first-breaking-requires : tie.Need-first-breaking-requires
-first-breaking-requires c κs = frame c
+first-breaking-requires c κs = frame (begun c)
 
 refused-requires-5 : tie.Need-refused-requires-5
 refused-requires-5 c κs = search needs
 
-returns-5 : tie.Need-returns-5
-returns-5 c =
+returns-6 : tie.Need-returns-6
+returns-6 c =
     let at = c .before in
-    c .refused5 .ensures ∙ sym (started (at .before .before) ∙ hit 5 _ _ _ (at .before .first-breaking .ensures) (at .if5 .taken))
+    c .refused5 .ensures ∙ sym (started (at .before .before) ∙ hit 5 _ _ _ (at .before .first-breaking .ensures) (at .if6 .taken))
 
 first-breaking-requires-2 : tie.Need-first-breaking-requires-2
-first-breaking-requires-2 c κs = frame (c .before .before)
+first-breaking-requires-2 c κs = frame (begun (c .before .before))
 
 refused-requires-6 : tie.Need-refused-requires-6
 refused-requires-6 c κs = search needs
 
-returns-6 : tie.Need-returns-6
-returns-6 c =
+returns-7 : tie.Need-returns-7
+returns-7 c =
     let at = c .before in
-    c .refused6 .ensures ∙ sym (ranged (at .before .before) ∙ hit 6 _ _ _ (at .before .first-breaking2 .ensures) (at .if6 .taken))
+    c .refused6 .ensures ∙ sym (ranged (at .before .before) ∙ hit 6 _ _ _ (at .before .first-breaking2 .ensures) (at .if7 .taken))
 
 first-breaking-requires-3 : tie.Need-first-breaking-requires-3
-first-breaking-requires-3 c κs = frame (c .before .before .before .before)
+first-breaking-requires-3 c κs = frame (begun (c .before .before .before .before))
 
 refused-requires-7 : tie.Need-refused-requires-7
 refused-requires-7 c κs = search needs
 
-returns-7 : tie.Need-returns-7
-returns-7 c =
+returns-8 : tie.Need-returns-8
+returns-8 c =
     let at = c .before in
-    c .refused7 .ensures ∙ sym (loopless (at .before .before) ∙ hit 7 _ _ _ (at .before .first-breaking3 .ensures) (at .if7 .taken))
+    c .refused7 .ensures ∙ sym (loopless (at .before .before) ∙ hit 7 _ _ _ (at .before .first-breaking3 .ensures) (at .if8 .taken))
 
-lowest-unreturned-requires : tie.Need-lowest-unreturned-requires
-lowest-unreturned-requires c κs =
-    let range = c .before .before .before .before in (
-      frame (range .before .before),
-      (nothing _ _ (range .before .first-breaking .ensures) (range .if5 .left), (nothing _ _ (c .before .first-breaking3 .ensures) (c .if7 .left), omega arith)),
-    )
+first-unreturned-requires : tie.Need-first-unreturned-requires
+first-unreturned-requires c κs =
+    let range = c .before .before .before .before in
+    (frame (begun (range .before .before)), (nothing _ _ (range .before .first-breaking .ensures) (range .if6 .left), nothing _ _ (c .before .first-breaking3 .ensures) (c .if8 .left)))
 
 refused-requires-8 : tie.Need-refused-requires-8
 refused-requires-8 c κs = search needs
 
-returns-8 : tie.Need-returns-8
-returns-8 c =
-    let at = c .before in
-    c .refused8 .ensures ∙ sym (ordered (at .before .before) ∙ hit 8 _ _ _ (at .before .lowest-unreturned .ensures) (at .if8 .taken))
-
 returns-9 : tie.Need-returns-9
-returns-9 c = sym (ordered (c .before .before) ∙ pass 8 _ _ _ (nothing _ _ (c .before .lowest-unreturned .ensures) (c .if8 .left)))
+returns-9 c =
+    let at = c .before in
+    c .refused8 .ensures ∙ sym (ordered (at .before .before) ∙ hit 8 _ _ _ (at .before .first-unreturned .ensures) (at .if9 .taken))
+
+returns-10 : tie.Need-returns-10
+returns-10 c = sym (ordered (c .before .before) ∙ pass 8 _ _ _ (nothing _ _ (c .before .first-unreturned .ensures) (c .if9 .left)))
 
 pub check-spec : {M : Type 1} → statement M
 check-spec =
@@ -170,16 +181,18 @@ check-spec =
     first-bad-start-requires
     refused-requires-4
     returns-4
+    all-paired-requires
+    returns-5
     first-breaking-requires
     refused-requires-5
-    returns-5
+    returns-6
     first-breaking-requires-2
     refused-requires-6
-    returns-6
+    returns-7
     first-breaking-requires-3
     refused-requires-7
-    returns-7
-    lowest-unreturned-requires
-    refused-requires-8
     returns-8
-    returns-9)
+    first-unreturned-requires
+    refused-requires-8
+    returns-9
+    returns-10)

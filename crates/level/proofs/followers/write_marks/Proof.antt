@@ -18,19 +18,19 @@ search-requires c κs =
     let sheet = pre .1 .0 in
     (pre .0, (omega (arith, sheet .levels-long), (omega (arith, sheet .layers-long), (sheet .levels-hold, (sheet .layers-hold, (pre .1 .1 .0 .0, pre .1 .1 .0 .1))))))
 
-copy-requires : tie.Need-copy-requires
-copy-requires c κs =
+copy-bytes-requires : tie.Need-copy-bytes-requires
+copy-bytes-requires c κs =
     let pre = entry (c .before .before) .pre in
     omega (arith, pre .0 .table .small, pre .1 .1 .1)
 
 same-length : tie.Need-same-length
-same-length c = c .before .before .copy .kept .1 .0
+same-length c = c .before .before .copy-bytes .kept .1 .0
 
 returns : tie.Need-returns
 returns c =
     let found = searched c in
     let counts = found .search .ensures in
-    (ap₂ Found (counts .1 .0) (counts .1 .1), copied _ (found .search .last .1 .1 .1 .1 .1 .1 .0) (entry found .pre .1 .1 .1) (counts .0) (c .before .before .copy .ensures))
+    (ap₂ Found (counts .1 .0) (counts .1 .1), copied _ (found .search .last .1 .1 .1 .1 .1 .1 .0) (entry found .pre .1 .1 .1) (counts .0) (c .before .before .copy-bytes .ensures))
 
 pub write-marks-spec : {M : Type 1} → statement M
-write-marks-spec = tie.close (tie.spec search-requires copy-requires same-length returns)
+write-marks-spec = tie.close (tie.spec search-requires copy-bytes-requires same-length returns)

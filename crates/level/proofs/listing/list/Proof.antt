@@ -87,10 +87,11 @@ loop-again : tie.Need-loop-again Inv-loop μ-loop
 loop-again c =
     let head = c .before .before .before in
     let E = head .loop .inv .1 in
+    let number = getD (head .before .args .component .now) (head .loop .v) 0 in
     ⊎-elim
     (λ w.
     let room = place record { before = c .before; if1 = w .0 } in
-    (omega arith, rw (w .3, w .4, w .5, w .6) (entries-more E (eq-eqb _ _ (w .0 .taken)) (room .0) (room .1) (room .2))))
+    (omega arith, rw (w .3, w .4, w .5, w .6) (entries-more E (eq-eqb number (head .loop .v) (omega (arith, w .0 .taken))) (room .0) (room .1) (room .2))))
     (λ w. (omega arith, rw (w .1, w .2, w .3, w .4) (entries-same E (ne-eqb _ _ (w .0 .left)))))
     (c .if1 .came)
 

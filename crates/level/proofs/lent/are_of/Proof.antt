@@ -4,8 +4,8 @@ use mathlib.Core.Bool.{_&&_}
 use mathlib.Core.Logic.{⊎-elim}
 use lib.Dec.{eqb}
 use borrow.Author.Tests.{eq-eqb, ne-eqb}
-use Rattle.session.proofs.lent.are_of.Statement.{statement}
-use Rattle.session.proofs.lent.are_of.Tie as tie
+use Rattle.level.proofs.lent.are_of.Statement.{statement}
+use Rattle.level.proofs.lent.are_of.Tie as tie
 
 -- the first two tests together
 first-two : (c : tie.Joined1) → let args = c .before .args in c .if1 .if2 ≡ eqb (args .first) (args .n) && eqb (args .second) (args .n)

@@ -1,4 +1,4 @@
--- `work::copy` meets its contract. The invariant: the first v places are copied. Assumes nothing.
+-- `lent::copy_bytes` meets its contract. The invariant: the first v places are copied. Assumes nothing.
 use mathlib.Core.Path.{_≡_, _∙_}
 use mathlib.Core.List.{List, _++_}
 use Prim.Native.Nat.{ℕ, _-_, _≤_}
@@ -6,30 +6,24 @@ use native.Mathlib.Omega.{arith}
 use lib.ListN.{length, drop, getD, length-set}
 use Rattle.finite.specs.Count.{tabulate}
 use Rattle.finite.proofs.Count.{fill-none, fill-more, fill-all}
-use Rattle.level.proofs.work.copy.Statement.{statement}
-use Rattle.level.proofs.work.copy.Tie as tie
+use Rattle.level.proofs.lent.copy_bytes.Statement.{statement}
+use Rattle.level.proofs.lent.copy_bytes.Tie as tie
 use borrow.Author.Needs.{needs}
 
 abbrev at : List ℕ → ℕ → ℕ
 at xs i = getD xs i 0
 
 abbrev Inv-loop : tie.InvT-loop
-Inv-loop from to₀ v₀ to v = (v ≤ length to₀) × (length to ≡ length to₀) × (to ≡ tabulate (at from) v ++ drop v to₀)
+Inv-loop bytes to₀ v₀ to v = (v ≤ length to₀) × (length to ≡ length to₀) × (to ≡ tabulate (at bytes) v ++ drop v to₀)
 
 abbrev μ-loop : tie.MeasureT-loop
-μ-loop from to₀ v₀ to v = length to₀ - v
+μ-loop bytes to₀ v₀ to v = length to₀ - v
 
 loop-holds : tie.Need-loop-holds Inv-loop μ-loop
 loop-holds c = (search needs, search needs, fill-none _ _)
 
-mul-to : tie.Need-mul-to Inv-loop μ-loop
-mul-to c = search needs
-
 element-copy-out-to : tie.Need-element-copy-out-to Inv-loop μ-loop
 element-copy-out-to c = search needs
-
-mul-to-2 : tie.Need-mul-to-2 Inv-loop μ-loop
-mul-to-2 c = search needs
 
 slice-write-to : tie.Need-slice-write-to Inv-loop μ-loop
 slice-write-to c = search needs
@@ -54,16 +48,14 @@ returns c =
     let done : c .before .loop .v ≡ length (c .before .before .args .to .now) = omega arith in
     rw (← done) (c .before .loop .inv .2 ∙ fill-all _ _ _ done)
 
-pub copy-spec : {M : Type 1} → statement M
-copy-spec =
+pub copy-bytes-spec : {M : Type 1} → statement M
+copy-bytes-spec =
     tie.close
     (tie.spec
     Inv-loop
     μ-loop
     loop-holds
-    mul-to
     element-copy-out-to
-    mul-to-2
     slice-write-to
     add-v
     loop-less

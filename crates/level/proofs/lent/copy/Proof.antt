@@ -6,18 +6,18 @@ use native.Mathlib.Omega.{arith}
 use lib.ListN.{length, drop, getD, length-set}
 use Rattle.finite.specs.Count.{tabulate}
 use Rattle.finite.proofs.Count.{fill-none, fill-more, fill-all}
-use Rattle.session.proofs.lent.copy.Statement.{statement}
-use Rattle.session.proofs.lent.copy.Tie as tie
+use Rattle.level.proofs.lent.copy.Statement.{statement}
+use Rattle.level.proofs.lent.copy.Tie as tie
 use borrow.Author.Needs.{needs}
 
 abbrev at : List ℕ → ℕ → ℕ
 at xs i = getD xs i 0
 
 abbrev Inv-loop : tie.InvT-loop
-Inv-loop from to₀ v₀ to v = (v ≤ length to₀) × (length to ≡ length to₀) × (to ≡ tabulate (at from) v ++ drop v to₀)
+Inv-loop numbers to₀ v₀ to v = (v ≤ length to₀) × (length to ≡ length to₀) × (to ≡ tabulate (at numbers) v ++ drop v to₀)
 
 abbrev μ-loop : tie.MeasureT-loop
-μ-loop from to₀ v₀ to v = length to₀ - v
+μ-loop numbers to₀ v₀ to v = length to₀ - v
 
 loop-holds : tie.Need-loop-holds Inv-loop μ-loop
 loop-holds c = (search needs, search needs, fill-none _ _)
@@ -42,8 +42,8 @@ loop-less c = search needs
 
 loop-again : tie.Need-loop-again Inv-loop μ-loop
 loop-again c =
-    let head = c .before .before in
-    (search needs, simp length-set (head .loop .inv .1), fill-more _ _ _ (head .loop .v) (head .loop .inv .2) (omega arith))
+    let at-head = c .before .before in
+    (search needs, simp length-set (at-head .loop .inv .1), fill-more _ _ _ (at-head .loop .v) (at-head .loop .inv .2) (omega arith))
 
 same-length : tie.Need-same-length Inv-loop μ-loop
 same-length c = search needs
