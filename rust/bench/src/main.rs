@@ -10,7 +10,6 @@ fn main() -> std::io::Result<()> {
     lines.extend(measures::working(&seeds));
     lines.extend(measures::search(&seeds));
     lines.extend(measures::session(&seeds));
-    #[cfg(feature = "text")]
     lines.extend(measures::rounds(&seeds));
     let table = report::table(&lines, seeds.len()) + "\n" + &measures::reached(&seeds);
     print!("{table}");

@@ -206,7 +206,6 @@ pub fn session(seeds: &[u64]) -> Vec<Line> {
     lines.into()
 }
 
-#[cfg(feature = "text")]
 pub fn rounds(seeds: &[u64]) -> Vec<Line> {
     let mut line = Line::new(
         "text to sheet: 1,000 vertices, 5,000 edges, 20 rounds",

@@ -10,7 +10,6 @@ pub struct Answer {
 }
 
 /// Number 0 and the sheet's length; else the refusal's number and place.
-#[cfg(feature = "text")]
 #[repr(C)]
 pub struct Sheeted {
     pub number: u64,
@@ -42,6 +41,5 @@ extern "C" {
         stamps: *mut u16, stamps_len: usize, status: *mut u16, status_len: usize, lifted: *mut u16, lifted_len: usize,
         redone: *mut u16, redone_len: usize,
     ) -> Answer;
-    #[cfg(feature = "text")]
     pub fn planner_text_to_sheet(text: *const u8, text_len: usize, sheet: *mut u8, sheet_len: usize) -> Sheeted;
 }

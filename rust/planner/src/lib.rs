@@ -134,7 +134,6 @@ pub fn run(input: Input, requests: &[u16], record: &mut Record) -> Result<(), Re
 }
 
 /// From a text to the answer sheet: the sheet's length. Bytes past it, and at a refusal all, stay.
-#[cfg(feature = "text")]
 pub fn text_to_sheet(text: &[u8], sheet: &mut [u8]) -> Result<usize, Refusal> {
     let answer = unsafe { exports::planner_text_to_sheet(text.as_ptr(), text.len(), sheet.as_mut_ptr(), sheet.len()) };
     match answer.number {

@@ -1,6 +1,5 @@
 //! From a text to the sheet, against the naive working: document 01's listing, every refusal with its place, damaged texts, room and
 //! limits. PLANNER_LONG=1 runs more.
-#![cfg(feature = "text")]
 
 mod shared;
 

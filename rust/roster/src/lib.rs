@@ -15,7 +15,6 @@ pub enum Answer {
 }
 
 /// The planner's answer to a text.
-#[cfg(feature = "text")]
 pub fn answer(text: &[u8]) -> Answer {
     let mut sheet = vec![0; LONGEST_SHEET];
     match planner::text_to_sheet(text, &mut sheet) {

@@ -1,5 +1,4 @@
 //! The roster on the folder examples/, as a library and as a program.
-#![cfg(feature = "text")]
 
 use pools::Example;
 use roster::{answer, Answer};
