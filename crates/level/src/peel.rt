@@ -75,16 +75,7 @@ fn lower(
 {
     let mut end = tail;
     for j in 0..part.len() {
-        end = strike(
-            part[j] as usize,
-            k,
-            turn,
-            degree,
-            level,
-            layer,
-            queue,
-            end,
-        );
+        end = strike(part[j] as usize, k, turn, degree, level, layer, queue, end);
     }
     end
 }
