@@ -344,13 +344,19 @@ module _ {s l a pending₀ labels₀ queue₀ pending labels queue seen : List �
         let free = P .queued .labeled u (P .vertex) (label-below labels₀ u (omega (arith, P .label, visit-bounds))) .free in
         omega (arith, level-lt G (simple s l (P .admitted .table)) A u (P .vertex) free, P .height, visit-bounds)
 
-    -- a neighbor that has k there is beside u and has no label, and a place in the queue
-    pub joins-yes : getD pending w 0 ≡ k → Beside G A u w × T (blank labels w) × (tail < vertices s)
+    -- a neighbor that has a level there has no label, and a place in the queue
+    joins-blank : getD pending w 0 ≤ k → T (blank labels w)
+    joins-blank h = pends-none o w (visit-bounds .0) (omega (arith, k-low))
+
+    pub visit-room : getD pending w 0 ≤ k → tail < vertices s
+    visit-room h = room (g .queued) w (visit-bounds .0) (joins-blank h)
+
+    -- one that has k there is beside u
+    joins-yes : getD pending w 0 ≡ k → Beside G A u w
     joins-yes e =
-        let none = pends-none o w (visit-bounds .0) (omega (arith, k-low)) in
-        let same : level G A w ≡ k = sym (pends-level o w (visit-bounds .0) none) ∙ e in
+        let same : level G A w ≡ k = sym (pends-level o w (visit-bounds .0) (joins-blank (omega arith))) ∙ e in
         let free = not-T (A w) (λ t. absurd (omega (arith, level-anchored G (simple s l (P .admitted .table)) A w t, k-low))) in
-        ((listed, free, same ∙ sym (P .height)), none, room (g .queued) w (visit-bounds .0) none)
+        (listed, free, same ∙ sym (P .height))
 
     -- one that is beside u and has something else there has a label
     joins-no : (getD pending w 0 ≡ k → ⊥) → T (not (A w)) → level G A w ≡ level G A u → T (not (blank labels w))
@@ -370,8 +376,8 @@ module _ {s l pending₀ labels₀ queue₀ pending labels queue seen : List ℕ
           let m = N .moves a P in
           let table = P .admitted .table in
           let b = visit-bounds P (m .0) (m .1) w listed in
-          let j = joins-yes P (m .0) (m .1) w listed e in
-          (visit-label (m .0) w (simple s l table) (table .small) (P .below) (P .vertex) (P .label) (j .0) (j .1), pends-set (m .1) w start (b .0) (m .0 .queued .long) (omega arith));
+          let none = joins-blank P (m .0) (m .1) w listed (omega arith) in
+          (visit-label (m .0) w (simple s l table) (table .small) (P .below) (P .vertex) (P .label) (joins-yes P (m .0) (m .1) w listed e) none, pends-set (m .1) w start (b .0) (m .0 .queued .long) (omega arith));
     }
 
 -- no neighbor is seen

@@ -10,10 +10,11 @@ use lib.Dec.{T, eqb}
 use Rattle.finite.specs.Count.{bit, below, count, In, Distinct}
 use Rattle.finite.specs.Search.{member}
 use Rattle.finite.specs.Pairs.{pairLe}
+use Rattle.table.specs.Table.{vertices}
 use Rattle.anchored.specs.Graph.{Graph, Simple}
 use Rattle.anchored.specs.Sheet.{atLeast}
 use Rattle.anchored.proofs.Sheet.{Fits}
-use Rattle.level.specs.Input.{anchoredBy}
+use Rattle.level.specs.Input.{graphOf, anchoredBy, Admitted}
 
 -- not anchored, and without a level yet
 abbrev pub unset : (ℕ → Bool) → (ℕ → ℕ) → ℕ → Bool
@@ -52,14 +53,14 @@ pub record Peeling (G : Graph) (A : ℕ → Bool) (deg lev lay : ℕ → ℕ) (k
       → (deg v ≡ count (present A lev lay k turn waiting) (G .neighbors v) + bit (member v due)) × (k ≤ deg v) × (v < seen → k < deg v)
   pub total : done + count (unset A lev) (below (G .size)) ≡ count (λ v. not (A v)) (below (G .size))
 
--- The degrees tell who is not to be removed any more, in shell k when the vertices below `seen` are seen.
+-- In shell k, when the vertices below `seen` are seen, the degrees tell who is not to be removed any more.
 pub record Told (G : Graph) (A : ℕ → Bool) (deg lev : ℕ → ℕ) (k seen : ℕ) : Type 0 where
   -- a vertex that is anchored or has its level has a degree of at most k
   pub closed : (v : ℕ) → v < G .size → T (not (unset A lev v)) → deg v ≤ k
   -- one with a level from a shell before has a degree below k
   pub before : (v : ℕ) → v < G .size → T (not (A v)) → (lev v ≡ 65535 → ⊥) → seen ≤ v → deg v < k
 
--- the degrees to begin with: no vertex loses an anchored one, and an anchored one counts nobody
+-- the degrees to begin with: that of an anchored vertex is 0, and nothing lowers it
 abbrev pub firstDegree : Graph → (ℕ → Bool) → ℕ → ℕ
 firstDegree G A v = bit (not (A v)) * length (G .neighbors v)
 
@@ -102,6 +103,20 @@ pub record Strikes (degree level layer queue degree′ level′ layer′ queue�
       → Peels G a degree′ level′ layer′ k turn waiting (next ++ slice tail tail′ queue′) due (G .size) tail′
   pub kept : take tail queue′ ≡ take tail queue
   pub grows : tail ≤ tail′
+  pub long : Long degree′ level′ layer′ queue′
+
+-- some peeling of the table has a batch waiting in the queue, from head up to end
+pub record CanRemove (s l degree level layer queue : List ℕ) (k turn head end : ℕ) : Type 0 where
+  pub bytes : List ℕ
+  pub admitted : Admitted s l bytes
+  pub state : Peels (graphOf s l) bytes degree level layer k turn (slice head end queue) [] [] (vertices s) end
+
+-- removing the batch is a step of every such peeling; the next batch stands after it
+pub record Removes (s l degree level layer queue degree′ level′ layer′ queue′ : List ℕ) (k turn head end tail : ℕ) : Type 0 where
+  pub moves : (a : List ℕ) → Admitted s l a
+      → Peels (graphOf s l) a degree level layer k turn (slice head end queue) [] [] (vertices s) end
+      → Peels (graphOf s l) a degree′ level′ layer′ k turn [] (slice end tail queue′) [] (vertices s) tail
+  pub grows : end ≤ tail
   pub long : Long degree′ level′ layer′ queue′
 
 -- some peeling is at the beginning of shell k, has seen the vertices below `seen`, and has all below `last`

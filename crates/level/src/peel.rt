@@ -11,7 +11,7 @@ ghost use Rattle.anchored.specs.Core.{level as levelOf};
 ghost use Rattle.anchored.specs.Core.{layer as layerOf};
 ghost use Rattle.level.specs.Input.{graphOf, anchoredBy, Admitted};
 ghost use Rattle.level.specs.Arrays.{Holds};
-ghost use Rattle.level.specs.Peeling.{firstDegree, Peels, Long, CanStrike, Strikes, CanLook, Looks};
+ghost use Rattle.level.specs.Peeling.{firstDegree, Peels, Long, CanStrike, Strikes, CanRemove, Removes, CanLook, Looks};
 
 // Gives v its level and its layer, and puts it at the end of the queue.
 fn settle(
@@ -33,7 +33,7 @@ fn settle(
 }
 
 // Takes a removed neighbor from the degree of w, which goes in the next batch if that leaves it k neighbors. A degree of k or less is
-// that of a vertex which is anchored or has its level, and stays: so no other array is read, and a branch is taken only where w goes.
+// that of a vertex which is anchored or has its level, and stays: no other array is read, and only the last test branches.
 fn strike(
     w: usize,
     k: u16,
@@ -84,7 +84,6 @@ fn lower(
 fn batch(
     starts: &[u16],
     links: &[u16],
-    anchored: &[u8],
     head: usize,
     end: usize,
     k: u16,
@@ -94,11 +93,10 @@ fn batch(
     layer: &mut [u16; 1024],
     queue: &mut [u16; 1024],
 ) -> usize
-    requires { ⌜ Admitted (now starts) (now links) (now anchored) ⌝ }
     requires { ⌜ (head ≤ end) × (turn ≤ 1024) ⌝ }
     requires { ⌜ Long (now degree) (now level) (now layer) (now queue) ⌝ }
-    requires { ⌜ Peels (graphOf (now starts) (now links)) (now anchored) (now degree) (now level) (now layer) k turn (slice head end (now queue)) [] [] (vertices (now starts)) end ⌝ }
-    ensures { λ r. ⌜ (end ≤ r) × Long (now (degree .exit)) (now (level .exit)) (now (layer .exit)) (now (queue .exit)) × Peels (graphOf (now (starts .entry)) (now (links .entry))) (now (anchored .entry)) (now (degree .exit)) (now (level .exit)) (now (layer .exit)) k turn [] (slice end r (now (queue .exit))) [] (vertices (now (starts .entry))) r ⌝ }
+    requires { ⌜ CanRemove (now starts) (now links) (now degree) (now level) (now layer) (now queue) k turn head end ⌝ }
+    ensures { λ r. ⌜ Removes (now (starts .entry)) (now (links .entry)) (now (degree .entry)) (now (level .entry)) (now (layer .entry)) (now (queue .entry)) (now (degree .exit)) (now (level .exit)) (now (layer .exit)) (now (queue .exit)) k turn head end r ⌝ }
 {
     let mut tail = end;
     for i in head..end {
@@ -108,7 +106,8 @@ fn batch(
     tail
 }
 
-// Puts v into the first batch of shell k, if it has no more than k neighbors left. One with a level has a degree below k by then.
+// Puts v into the first batch of shell k, if it has no more than k neighbors left: no vertex without a level has fewer than k, and one
+// with a level has a degree below k. An anchored one has degree 0.
 fn look(
     anchored: &[u8],
     v: usize,
@@ -188,7 +187,6 @@ fn shell(
         let next = batch(
             starts,
             links,
-            anchored,
             head,
             end,
             k,

@@ -4,7 +4,6 @@ use mathlib.Core.List.{List}
 use Prim.Native.Nat.{ℕ, _+_, _-_, _<_}
 use native.Mathlib.Omega.{arith}
 use lib.ListN.{getD, set}
-use borrow.Author.Needs.{needs}
 use Rattle.table.specs.Table.{vertices}
 use Rattle.level.proofs.Flooding.{room, Spread, spread-seed, spread-visit, spread-next}
 use Rattle.level.proofs.flood.spread.Statement.{statement}

@@ -12,7 +12,7 @@ use Rattle.finite.specs.Count.{In}
 use Rattle.finite.proofs.Count.{in-at}
 use Rattle.table.specs.Table.{neighbors as neighborsOf}
 use Rattle.level.specs.Flooding.{Visits}
-use Rattle.level.proofs.Flooding.{visit-bounds, joins-yes, visits-none, visits-pass, visits-label}
+use Rattle.level.proofs.Flooding.{visit-bounds, visit-room, visits-none, visits-pass, visits-label}
 use Rattle.level.proofs.flood.visit.Statement.{statement}
 use Rattle.level.proofs.flood.visit.Tie as tie
 
@@ -51,7 +51,7 @@ space c =
     let at = known .before .before in
     let state = at .before .before .before .before .pre .state in
     let now = at .loop .inv .1 .moves _ state in
-    omega (arith, joins-yes state (now .0) (now .1) _ (listed known) (c .if1 .taken), visit-bounds state (now .0) (now .1) _ (listed known))
+    omega (arith, visit-room state (now .0) (now .1) _ (listed known) (omega arith), visit-bounds state (now .0) (now .1) _ (listed known))
 
 neighbors-requires : tie.Need-neighbors-requires Inv-loop μ-loop
 neighbors-requires c κs =
@@ -117,7 +117,7 @@ loop-again c =
     let w = getD part (at .loop .j) 0 in
     let more : take (at .loop .j + 1) part ≡ take (at .loop .j) part ++ w ∷ [] = rw add-one (take-suc part (at .loop .j) 0 (omega arith)) in
     ⊎-elim
-    (λ way. rw (more, way .1, way .2, way .3, way .4) (omega arith, visits-label (at .loop .inv .1) w (listed known) (way .0 .taken)))
+    (λ way. rw (more, way .1, way .2, way .3, way .4) (omega arith, visits-label (at .loop .inv .1) w (listed known) (omega arith)))
     (λ way. rw (more, way .1, way .2, way .3, way .4) (omega arith, visits-pass (at .loop .inv .1) w (listed known) (way .0 .left)))
     (c .if1 .came)
 

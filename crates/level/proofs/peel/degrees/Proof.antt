@@ -3,6 +3,8 @@ use mathlib.Core.Path.{_≡_, ap}
 use mathlib.Core.Bool.{Bool, not}
 use Prim.Native.Nat.{ℕ, _+_, _*_, _-_, _≤_, _<_}
 use native.Mathlib.Omega.{arith}
+use mir.Syntax.{w16}
+use mir.Val.{Fits}
 use lib.ListN.{length, length-set}
 use Rattle.finite.specs.Count.{bit}
 use Rattle.finite.proofs.Tests.{split, true-of, false-of}
@@ -23,8 +25,8 @@ abbrev μ-loop : tie.MeasureT-loop
 μ-loop starts links anchored degree₀ n v₀ degree v = n - v
 
 -- a number counted or not
-bit-times : (b : Bool) (x : ℕ) → bit b * x ≤ x
-bit-times b x = split b (λ t. rw (true-of b t) (omega arith)) (λ t. rw (false-of b t) (omega arith))
+times-fits : (b : Bool) (x : ℕ) → x ≤ 16384 → Fits w16 (bit b * x)
+times-fits b x h = split b (λ t. rw (true-of b t) (omega arith)) (λ t. rw (false-of b t) (omega arith))
 
 -- a vertex has no more neighbors than there are links
 few : (c : tie.After-shared-slice-known4 Inv-loop μ-loop) → length (c .before .neighbors .result .now) ≤ 16384
@@ -57,7 +59,7 @@ cast-degree-2 c = omega (arith, few c)
 mul-degree : tie.Need-mul-degree Inv-loop μ-loop
 mul-degree c =
     let a = c .before .before .before .before .before .before .before .args .anchored .now in
-    omega (arith, few c, bit-times (not (anchoredBy a (c .before .before .before .loop .v))) (length (c .before .neighbors .result .now)))
+    times-fits (not (anchoredBy a (c .before .before .before .loop .v))) _ (few c)
 
 mul-degree-2 : tie.Need-mul-degree-2 Inv-loop μ-loop
 mul-degree-2 c = omega (arith, c .before .before .before .before .before .before .before .pre .0 .table .small)

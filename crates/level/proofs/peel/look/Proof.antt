@@ -1,12 +1,9 @@
 -- `peel::look` meets its contract: each way out is a step of the peeling. Assumes nothing.
-use mathlib.Core.Path.{_≡_}
 use Prim.Native.Nat.{_<_}
 use native.Mathlib.Omega.{arith}
-use lib.Dec.{T}
-use lib.ListN.{length, getD}
+use lib.ListN.{length}
 use borrow.Author.Tests.{ne-eqb}
 use Rattle.finite.proofs.Tests.{of-false, neqb}
-use Rattle.level.specs.Input.{anchoredBy}
 use Rattle.level.proofs.Steps.{looks-pass, look-room, looks-settle}
 use Rattle.level.proofs.peel.look.Statement.{statement}
 use Rattle.level.proofs.peel.look.Tie as tie

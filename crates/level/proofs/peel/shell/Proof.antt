@@ -48,7 +48,7 @@ batch-requires : tie.Need-batch-requires Inv-loop μ-loop
 batch-requires c κs =
     let p = c .before .before .before .before .before .before .before .before .before .before .before .before .before .before .pre in
     let inv = c .before .before .before .before .before .loop .inv in
-    (p .0, ((inv .0, omega (arith, inv .1, inv .2, c .before .before .before .before .loop-test .taken)), (inv .3, inv .4)))
+    ((inv .0, omega (arith, inv .1, inv .2, c .before .before .before .before .loop-test .taken)), (inv .3, record { bytes = _; admitted = p .0; state = inv .4 }))
 
 add-turn : tie.Need-add-turn Inv-loop μ-loop
 add-turn c =
@@ -65,7 +65,8 @@ loop-again c =
     let p = c .before .before .before .before .before .before .before .before .before .before .before .before .before .before .before .pre in
     let inv = c .before .before .before .before .before .before .loop .inv in
     let b = c .batch .ensures in
-    (b .0, omega (arith, room-all (b .2 .peeling), p .0 .table .small), omega (arith, inv .2, c .before .before .before .before .before .loop-test .taken), b .1, next-turn _ _ (b .2))
+    let next = b .moves _ (p .0) (inv .4) in
+    (b .grows, omega (arith, room-all (next .peeling), p .0 .table .small), omega (arith, inv .2, c .before .before .before .before .before .loop-test .taken), b .long, next-turn _ _ next)
 
 returns : tie.Need-returns Inv-loop μ-loop
 returns c =
