@@ -1,7 +1,7 @@
 -- Floods from each vertex without a label, in ascending order, label every vertex with its component's number. Assumes nothing.
 use mathlib.Core.Path.{_≡_, refl, sym, ap, _∙_, subst}
 use mathlib.Core.Logic.{⊎-elim}
-use mathlib.Core.Bool.{Bool, true, false, not, _&&_}
+use mathlib.Core.Bool.{Bool, not}
 use mathlib.Core.List.{List, [], _∷_, _++_}
 use Prim.Native.Nat.{ℕ, _+_, _≤_, _<_}
 use native.Mathlib.Nat.{eq-or-lt-of-le}
@@ -10,18 +10,19 @@ use lib.ListN.{length, getD, set, length-set}
 use lib.Seq.{getD-set-same, getD-set-other}
 use lib.Dec.{T, eqb, leb, T-not, not-T, eqb→eq, leb→le, nleb→lt}
 use Rattle.finite.specs.Count.{In, count, below}
-use Rattle.finite.proofs.Tests.{and-i, and-l, and-r, split, true-of, of-true, of-false, eqb-of, neqb}
+use Rattle.finite.proofs.Tests.{not-not, split, true-of, false-of, eqb-of, neqb}
 use Rattle.finite.proofs.Count.{in-append, in-below, length-below, count-all, count-some}
 use Rattle.finite.proofs.Search.{count-less}
 use Rattle.table.specs.Table.{vertices, neighbors}
 use Rattle.anchored.specs.Graph.{Graph, Simple}
 use Rattle.anchored.specs.Core.{level}
 use Rattle.anchored.specs.Component.{Joined, stay, hop, component}
-use Rattle.anchored.proofs.Component.{joined-trans, component-unique}
+use Rattle.anchored.proofs.Core.{level-anchored, level-lt}
+use Rattle.anchored.proofs.Component.{joined-level, joined-trans, component-unique}
 use Rattle.level.specs.Input.{graphOf, anchoredBy}
 use Rattle.level.specs.Arrays.{Holds}
-use Rattle.level.specs.Flooding.{Leveled, blank, joins, Beside, Labeled, Queued, Flooding, Visiting}
-use Rattle.level.proofs.Laws.{free-byte, byte-free}
+use Rattle.level.specs.Flooding.{blank, Beside, Labeled, Queued, Flooding, Visiting, Pends, Floods, Visit, Visits}
+use Rattle.level.proofs.Laws.{simple}
 
 -- ---- labels
 
@@ -288,30 +289,154 @@ module _ {G : Graph} {A : ℕ → Bool} where
           (λ t. let l = nleb→lt tail i t in omega (arith, same-label i l, f .waiting i (omega arith) l));
     }
 
--- ---- the test of a visit
+-- ---- who joins
 
-module _ {s l a e : List ℕ} (given : Leveled s l a e) (labels : List ℕ) {u : ℕ} (bu : u < vertices s) (w : ℕ) (listed : In w (neighbors s l u)) where
-  abbrev free-test : Bool
-  free-test = eqb (getD a w 0) 0
+module _ {G : Graph} {A : ℕ → Bool} {pending labels : List ℕ} (o : Pends G A pending labels) where
+  -- a vertex without a label has its level there
+  pends-level : (v : ℕ) → v < G .size → T (blank labels v) → getD pending v 0 ≡ level G A v
+  pends-level v b t = o .levels v b ∙ rw (true-of (blank labels v) t)
 
-  abbrev level-test : Bool
-  level-test = eqb (getD e w 0) (getD e u 0)
+  -- one that has a level there has no label
+  pends-none : (v : ℕ) → v < G .size → getD pending v 0 < 65535 → T (blank labels v)
+  pends-none v b h = not-not (blank labels v) (not-T (not (blank labels v)) (λ t.
+      let other : getD pending v 0 ≡ 65535 = o .levels v b ∙ rw (false-of (blank labels v) t) in
+      absurd (omega arith)))
 
-  vertex : w < vertices s
-  vertex = given .admitted .table .range u w bu listed
+  -- a label is given
+  pends-set : (w x : ℕ) → w < G .size → G .size ≤ length labels → x < 65535 → Pends G A (set pending w 65535) (set labels w x)
+  pends-set w x b long low = record {
+    extent = simp length-set (o .extent);
+    levels = λ v h. split (eqb v w)
+        (λ t.
+        let e = eqb→eq v w t in
+        let label = getD-set-same labels w x 0 (omega arith) in
+        rw (e, false-of (blank (set labels w x) w) (label-below (set labels w x) w (omega arith))) (getD-set-same pending w 65535 0 (omega (arith, o .extent))))
+        (λ t.
+        let apart = neqb v w t in
+        rw (getD-set-other labels w v x 0 apart) (getD-set-other pending w v 65535 0 apart ∙ o .levels v h));
+  }
 
-  -- a neighbor that passes it is beside u and has no label
-  pub test-passed : joins a e labels u w ≡ true → Beside (graphOf s l) (anchoredBy a) u w × T (blank labels w)
-  test-passed q =
-      let t = of-true (joins a e labels u w) q in
-      let both = and-l (free-test && blank labels w) level-test t in
-      let free = byte-free s l a (given .admitted) w (eqb→eq (getD a w 0) 0 (and-l free-test (blank labels w) both)) in
-      let same = eqb→eq (getD e w 0) (getD e u 0) (and-r (free-test && blank labels w) level-test t) in
-      ((listed, free, sym (given .levels w vertex) ∙ same ∙ given .levels u bu), and-r free-test (blank labels w) both)
+-- no vertex has a label
+pub pends-begin : {G : Graph} {A : ℕ → Bool} (pending labels : List ℕ) → G .size ≤ length pending → Holds pending (G .size) (level G A) → Holds labels (G .size) (λ v. 65535) → Pends G A pending labels
+pends-begin pending labels extent levels none = record {
+  extent = extent;
+  levels = λ v b. rw (true-of (blank labels v) (eqb-of (getD labels v 0) 65535 (none v b))) (levels v b);
+}
 
-  -- one that is beside u and fails it has a label
-  pub test-failed : joins a e labels u w ≡ false → T (not (anchoredBy a w)) → level (graphOf s l) (anchoredBy a) w ≡ level (graphOf s l) (anchoredBy a) u → T (not (blank labels w))
-  test-failed q free same =
-      let byte = eqb-of (getD a w 0) 0 (free-byte s l a (given .admitted) w vertex free) in
-      let equal = eqb-of (getD e w 0) (getD e u 0) (given .levels w vertex ∙ same ∙ sym (given .levels u bu)) in
-      not-T (blank labels w) (λ t. T-not (joins a e labels u w) (of-false (joins a e labels u w) q) (and-i (free-test && blank labels w) level-test (and-i free-test (blank labels w) byte t) equal))
+-- ---- a visit over the arrays
+
+module _ {s l a pending₀ labels₀ queue₀ pending labels queue seen : List ℕ} {k start u tail₀ tail : ℕ} (P : Visit s l a pending₀ labels₀ queue₀ k start u tail₀)
+    (g : Visiting (graphOf s l) (anchoredBy a) start u seen labels₀ queue₀ tail₀ labels queue tail) (o : Pends (graphOf s l) (anchoredBy a) pending labels)
+    (w : ℕ) (listed : In w (neighbors s l u))
+  where
+    abbrev G : Graph
+    G = graphOf s l
+
+    abbrev A : ℕ → Bool
+    A = anchoredBy a
+
+    pub visit-bounds : (w < vertices s) × (vertices s ≤ 1024) × (start < vertices s)
+    visit-bounds = (P .admitted .table .range u w (P .vertex) listed, P .admitted .table .small, P .below)
+
+    -- k is a level: u is not anchored
+    k-low : k < 65535
+    k-low =
+        let free = P .queued .labeled u (P .vertex) (label-below labels₀ u (omega (arith, P .label, visit-bounds))) .free in
+        omega (arith, level-lt G (simple s l (P .admitted .table)) A u (P .vertex) free, P .height, visit-bounds)
+
+    -- a neighbor that has a level there has no label, and a place in the queue
+    joins-blank : getD pending w 0 ≤ k → T (blank labels w)
+    joins-blank h = pends-none o w (visit-bounds .0) (omega (arith, k-low))
+
+    pub visit-room : getD pending w 0 ≤ k → tail < vertices s
+    visit-room h = room (g .queued) w (visit-bounds .0) (joins-blank h)
+
+    -- one that has k there is beside u
+    joins-yes : getD pending w 0 ≡ k → Beside G A u w
+    joins-yes e =
+        let same : level G A w ≡ k = sym (pends-level o w (visit-bounds .0) (joins-blank (omega arith))) ∙ e in
+        let free = not-T (A w) (λ t. absurd (omega (arith, level-anchored G (simple s l (P .admitted .table)) A w t, k-low))) in
+        (listed, free, same ∙ sym (P .height))
+
+    -- one that is beside u and has something else there has a label
+    joins-no : (getD pending w 0 ≡ k → ⊥) → T (not (A w)) → level G A w ≡ level G A u → T (not (blank labels w))
+    joins-no other free same = not-T (blank labels w) (λ t. absurd (other (pends-level o w (visit-bounds .0) t ∙ same ∙ P .height)))
+
+module _ {s l pending₀ labels₀ queue₀ pending labels queue seen : List ℕ} {k start u tail₀ tail : ℕ} (N : Visits s l pending₀ labels₀ queue₀ k start u tail₀ seen pending labels queue tail)
+    (w : ℕ) (listed : In w (neighbors s l u))
+  where
+    -- one more neighbor is seen
+    pub visits-pass : (getD pending w 0 ≡ k → ⊥) → Visits s l pending₀ labels₀ queue₀ k start u tail₀ (seen ++ w ∷ []) pending labels queue tail
+    visits-pass other = record { moves = λ a P. let m = N .moves a P in (visit-pass (m .0) w (joins-no P (m .0) (m .1) w listed other), m .1) }
+
+    pub visits-label : getD pending w 0 ≡ k
+        → Visits s l pending₀ labels₀ queue₀ k start u tail₀ (seen ++ w ∷ []) (set pending w 65535) (set labels w start) (set queue tail w) (tail + 1)
+    visits-label e = record {
+      moves = λ a P.
+          let m = N .moves a P in
+          let table = P .admitted .table in
+          let b = visit-bounds P (m .0) (m .1) w listed in
+          let none = joins-blank P (m .0) (m .1) w listed (omega arith) in
+          (visit-label (m .0) w (simple s l table) (table .small) (P .below) (P .vertex) (P .label) (joins-yes P (m .0) (m .1) w listed e) none, pends-set (m .1) w start (b .0) (m .0 .queued .long) (omega arith));
+    }
+
+-- no neighbor is seen
+pub visits-none : {s l pending labels queue : List ℕ} {k start u tail : ℕ} → Visits s l pending labels queue k start u tail [] pending labels queue tail
+visits-none = record { moves = λ a P. (visit-none (P .queued), P .pends) }
+
+-- ---- a flood over the arrays
+
+-- in the flood from `start`, of level k, the first `head` of the queue agree with all beside them
+pub record Spread (s l a pending labels queue : List ℕ) (k start head tail : ℕ) : Type 0 where
+  pub floods : Floods s l a pending labels queue (start + 1) head tail
+  pub vertex : start < vertices s
+  pub height : level (graphOf s l) (anchoredBy a) start ≡ k
+
+-- it begins with the start
+pub spread-seed : {s l a pending labels queue : List ℕ} {start tail : ℕ} → Floods s l a pending labels queue start tail tail → T (not (anchoredBy a start)) → start < vertices s → T (blank labels start)
+    → Spread s l a (set pending start 65535) (set labels start start) (set queue tail start) (getD pending start 0) start tail (tail + 1)
+spread-seed {start = start} f free vertex none =
+    let small = f .admitted .table .small in
+    record {
+      floods = record {
+        admitted = f .admitted;
+        flooding = seed (f .flooding) small vertex free none;
+        pends = pends-set (f .pends) start start vertex (f .flooding .queued .long) (omega arith);
+      };
+      vertex = vertex;
+      height = sym (pends-level (f .pends) start vertex none);
+    }
+
+module _ {s l a pending labels queue : List ℕ} {k start head tail : ℕ} (F : Spread s l a pending labels queue k start head tail) (some : head < tail) where
+  abbrev first : ℕ
+  first = getD queue head 0
+
+  -- the first that waits is to be visited: its level is that of the start
+  pub spread-visit : Visit s l a pending labels queue k start first tail
+  spread-visit =
+      let f = F .floods in
+      let q = f .flooding .queued in
+      let h = q .held head some in
+      let label : getD labels first 0 ≡ start = omega (arith, f .flooding .waiting head (omega arith) some) in
+      let same = joined-level (graphOf s l) (simple s l (f .admitted .table)) (anchoredBy a) first start (subst (Joined (graphOf s l) (anchoredBy a) first) label (q .labeled first (h .0) (h .1) .joined)) in
+      record {
+        admitted = f .admitted;
+        queued = q;
+        pends = f .pends;
+        below = F .vertex;
+        vertex = h .0;
+        label = label;
+        height = same ∙ F .height;
+      }
+
+  -- and is visited
+  pub spread-next : {pending′ labels′ queue′ : List ℕ} {tail′ : ℕ} → Visits s l pending labels queue k start first tail (neighbors s l first) pending′ labels′ queue′ tail′
+      → Spread s l a pending′ labels′ queue′ k start (head + 1) tail′
+  spread-next N =
+      let f = F .floods in
+      let m = N .moves a spread-visit in
+      record {
+        floods = record { admitted = f .admitted; flooding = advance (simple s l (f .admitted .table)) (f .flooding) some (m .0); pends = m .1 };
+        vertex = F .vertex;
+        height = F .height;
+      }

@@ -7,11 +7,11 @@ use Prim.Native.Nat.{ℕ, _+_, _-_, _≤_, _<_, zero-le}
 use native.Mathlib.Nat.{le-trans}
 use native.Mathlib.Omega.{arith}
 use lib.ListN.{length}
-use lib.Dec.{T, eqb, T-not, not-T, eqb→eq}
+use lib.Dec.{T, ltb, eqb, T-not, not-T, lt→ltb, eqb→eq}
 use Rattle.finite.specs.Count.{bit, below, count, In}
 use Rattle.finite.specs.Search.{any, member}
 use Rattle.finite.specs.Pairs.{pairLe}
-use Rattle.finite.proofs.Tests.{and-i, and-l, and-r, or-l, or-r, or-e, or-not, split, same, true-of, eqb-of, neqb}
+use Rattle.finite.proofs.Tests.{and-i, and-l, and-r, nand-i, or-l, or-r, or-e, or-not, split, same, true-of, eqb-of, neqb}
 use Rattle.finite.proofs.Count.{bit-yes, bit-no, in-append, distinct-snoc, distinct-below, length-below, in-below, count-length, count-some, count-none, count-all, count-mono, count-cong, count-witness, count-strict}
 use Rattle.finite.proofs.Search.{member-i, member-e, member-past, count-one}
 use Rattle.finite.proofs.Pairs.{pair-lt, pair-eq, pair-e, pair-trans, pair-first, pair-before}
@@ -20,7 +20,7 @@ use Rattle.anchored.specs.Core.{level, layer}
 use Rattle.anchored.specs.Sheet.{atLeast, support}
 use Rattle.anchored.proofs.Core.{degree-lt}
 use Rattle.anchored.proofs.Sheet.{Fits, local-agree}
-use Rattle.level.specs.Peeling.{unset, present, Stands, Struck, Peeling}
+use Rattle.level.specs.Peeling.{unset, present, Stands, Struck, Peeling, Told}
 
 -- ---- a vertex gets its level and its layer
 
@@ -202,20 +202,19 @@ module _ {G : Graph} {A : ℕ → Bool} {deg lev lay : ℕ → ℕ} {k turn : �
 module _ {G : Graph} {A : ℕ → Bool} {deg lev lay : ℕ → ℕ} {k turn : ℕ} {waiting next due : List ℕ} {w done : ℕ}
     (P : Peeling G A deg lev lay k turn waiting next (w ∷ due) (G .size) done)
   where
-    -- w is anchored or has its level: nothing changes
-    pub pass : (T (not (A w)) → lev w ≡ 65535 → ⊥) → Peeling G A deg lev lay k turn waiting next due (G .size) done
-    pass closed = struck-off P deg (λ v d. refl) (λ a e. absurd (closed a e))
-
-    -- its degree stays above k
-    pub lower : (deg′ : ℕ → ℕ) → Puts deg deg′ w (deg w - 1) → k < deg w - 1 → Peeling G A deg′ lev lay k turn waiting next due (G .size) done
-    lower deg′ degree′ above = struck-off P deg′ (degree′ .1) (λ a e. omega (arith, degree′ .0))
-
     -- a vertex without a level, when it is struck, has more than k neighbors left
     pub struck-above : T (not (A w)) → lev w ≡ 65535 → k < deg w
     struck-above a none = let b = P .owed w (inl refl) .0 in P .degree w b a none .2 b
 
+    -- it is not left with k: a degree above k is lowered, and stays above
+    pub lower : (deg′ : ℕ → ℕ) → Puts deg deg′ w (deg w - bit (ltb k (deg w))) → (deg w ≡ k + 1 → ⊥) → Peeling G A deg′ lev lay k turn waiting next due (G .size) done
+    lower deg′ degree′ more = struck-off P deg′ (degree′ .1) (λ a none.
+        let above = struck-above a none in
+        let one = bit-yes (ltb k (deg w)) (lt→ltb k (deg w) above) in
+        omega (arith, degree′ .0))
+
     -- its degree falls to k: it is of the next turn
-    pub fall : T (not (A w)) → lev w ≡ 65535 → deg w - 1 ≤ k → (deg′ lev′ lay′ : ℕ → ℕ) → Puts deg deg′ w (deg w - 1) → Puts lev lev′ w k → Puts lay lay′ w (turn + 1)
+    pub fall : T (not (A w)) → lev w ≡ 65535 → deg w ≡ k + 1 → (deg′ lev′ lay′ : ℕ → ℕ) → Puts deg deg′ w k → Puts lev lev′ w k → Puts lay lay′ w (turn + 1)
         → Peeling G A deg′ lev′ lay′ k turn waiting (next ++ w ∷ []) due (G .size) (done + 1)
     fall a none small deg′ lev′ lay′ degree′ level′ layer′ =
         let o = P .owed w (inl refl) in
@@ -386,10 +385,57 @@ seed {G} {A} {deg} {lev} {lay} {k} {seen} P b a none small lev′ lay′ level�
     let many : count (present A lev lay k 0 []) (G .neighbors seen) ≡ k = omega (arith, o .0, o .1) in
     look (settle P seen b a none many (λ h. absurd (omega arith)) lev′ lay′ level′ layer′) (λ f e. absurd (omega (arith, level′ .0)))
 
+-- ---- what the degrees tell
+
+module _ {G : Graph} {A : ℕ → Bool} {deg lev : ℕ → ℕ} {k seen : ℕ} (D : Told G A deg lev k seen) where
+  -- a vertex of a degree above k has no level yet
+  pub told-above : (v : ℕ) → v < G .size → k < deg v → T (not (A v)) × (lev v ≡ 65535)
+  told-above v b above = split (unset A lev v)
+      (λ t. (and-l (not (A v)) _ t, eqb→eq (lev v) 65535 (and-r (not (A v)) _ t)))
+      (λ t. absurd (omega (arith, D .closed v b t)))
+
+  -- nor has one of degree k, if it is not anchored and was not seen
+  pub told-unseen : (v : ℕ) → v < G .size → T (not (A v)) → seen ≤ v → k ≤ deg v → lev v ≡ 65535
+  told-unseen v b a late many = split (eqb (lev v) 65535)
+      (λ t. eqb→eq (lev v) 65535 t)
+      (λ t. absurd (omega (arith, D .before v b a (neqb (lev v) 65535 t) late)))
+
+  -- when w is seen, and gets another degree or a level, they go on to tell it if the degree of w does
+  pub told-on : (deg′ lev′ : ℕ → ℕ) (w seen′ : ℕ) → seen ≤ seen′ → w < seen′ → ((v : ℕ) → (v ≡ w → ⊥) → deg′ v ≡ deg v) → ((v : ℕ) → (v ≡ w → ⊥) → lev′ v ≡ lev v)
+      → (T (not (unset A lev′ w)) → deg′ w ≤ k) → Told G A deg′ lev′ k seen′
+  told-on deg′ lev′ w seen′ more passed degrees levels own = record {
+    closed = λ v b t. split (eqb v w)
+        (λ h. let e = eqb→eq v w h in subst (λ u. deg′ u ≤ k) (sym e) (own (subst (λ u. T (not (unset A lev′ u))) e t)))
+        (λ h.
+        let apart = neqb v w h in
+        omega (arith, D .closed v b (subst (λ z. T (not (not (A v) && eqb z 65535))) (levels v apart) t), degrees v apart));
+    before = λ v b a given late.
+        let apart : v ≡ w → ⊥ = λ e. absurd (omega arith) in
+        omega (arith, D .before v b a (λ e. given (levels v apart ∙ e)) (omega arith), degrees v apart);
+  }
+
+  -- in the next shell nobody is seen
+  pub told-rise : Told G A deg lev (k + 1) 0
+  told-rise = record {
+    closed = λ v b t. omega (arith, D .closed v b t);
+    before = λ v b a given late.
+        let level = nand-i (not (A v)) (eqb (lev v) 65535) (λ t. not-T (eqb (lev v) 65535) (λ e. given (eqb→eq (lev v) 65535 e))) in
+        omega (arith, D .closed v b level);
+  }
+
 -- ---- the beginning and the end
 
+-- nobody has a level, and an anchored vertex has degree 0
+pub told-begin : (G : Graph) (A : ℕ → Bool) (deg lev : ℕ → ℕ) → ((v : ℕ) → v < G .size → T (A v) → deg v ≡ 0) → ((v : ℕ) → v < G .size → lev v ≡ 65535) → Told G A deg lev 0 0
+told-begin G A deg lev none level = record {
+  closed = λ v b t. split (A v)
+      (λ h. omega (arith, none v b h))
+      (λ h. absurd (T-not (unset A lev v) t (and-i (not (A v)) _ h (eqb-of (lev v) 65535 (level v b)))));
+  before = λ v b a given late. absurd (given (level v b));
+}
+
 -- nobody has a level, and every neighbor is present
-pub begin : (G : Graph) → Simple G → (A : ℕ → Bool) (deg lev lay : ℕ → ℕ) → ((v : ℕ) → v < G .size → deg v ≡ length (G .neighbors v))
+pub begin : (G : Graph) → Simple G → (A : ℕ → Bool) (deg lev lay : ℕ → ℕ) → ((v : ℕ) → v < G .size → T (not (A v)) → deg v ≡ length (G .neighbors v))
     → ((v : ℕ) → v < G .size → lev v ≡ 65535) → ((v : ℕ) → v < G .size → lay v ≡ 0) → Peeling G A deg lev lay 0 0 [] [] [] 0 0
 unfolding any
 begin G L A deg lev lay degree′ level′ layer′ = record {
@@ -406,7 +452,7 @@ begin G L A deg lev lay degree′ level′ layer′ = record {
   degree = λ v b a none.
       let all = count-all (present A lev lay 0 0 []) (G .neighbors v) (λ u i.
       or-l (atLeast A lev lay 0 (0 + 1) u) _ (or-r (A u) _ (pair-lt 0 (0 + 1) (lev u) (lay u) (omega (arith, level′ u (L .range v u b i)))))) in
-      (omega (arith, degree′ v b), omega arith, λ h. absurd (omega arith));
+      (omega (arith, degree′ v b a), omega arith, λ h. absurd (omega arith));
   total = omega (
     arith,
     count-cong (unset A lev) (λ v. not (A v)) (below (G .size)) (λ v i.

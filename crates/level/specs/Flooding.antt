@@ -1,6 +1,6 @@
 -- The flood that numbers components: its array of labels, 65,535 where there is none yet, and its queue of the labeled vertices.
 use mathlib.Core.Path.{_≡_}
-use mathlib.Core.Bool.{Bool, not, _&&_}
+use mathlib.Core.Bool.{Bool, not, cond}
 use mathlib.Core.List.{List}
 use Prim.Native.Nat.{ℕ, _+_, _≤_, _<_}
 use lib.ListN.{length, getD}
@@ -11,21 +11,10 @@ use Rattle.anchored.specs.Graph.{Graph}
 use Rattle.anchored.specs.Core.{level}
 use Rattle.anchored.specs.Component.{Joined}
 use Rattle.level.specs.Input.{graphOf, anchoredBy, Admitted}
-use Rattle.level.specs.Arrays.{Holds}
-
--- what a flood is handed: an admitted table, and in the level array the defined levels
-pub record Leveled (s l a e : List ℕ) : Type 0 where
-  pub admitted : Admitted s l a
-  pub long : vertices s ≤ length e
-  pub levels : Holds e (vertices s) (level (graphOf s l) (anchoredBy a))
 
 -- a vertex without a label
 abbrev pub blank : List ℕ → ℕ → Bool
 blank labels v = eqb (getD labels v 0) 65535
-
--- w is to get the label of u: it is not anchored, has none, and is of one level with u
-abbrev pub joins : List ℕ → List ℕ → List ℕ → ℕ → ℕ → Bool
-joins anchored levels labels u w = eqb (getD anchored w 0) 0 && blank labels w && eqb (getD levels w 0) (getD levels u 0)
 
 module _ (G : Graph) (A : ℕ → Bool) where
   -- an edge inside a component, from u to w
@@ -63,3 +52,48 @@ module _ (G : Graph) (A : ℕ → Bool) where
     pub order : (i : ℕ) → i < tail₀ → getD queue i 0 ≡ getD queue₀ i 0
     pub added : (i : ℕ) → tail₀ ≤ i → i < tail → getD labels (getD queue i 0) 0 ≡ start
     pub reached : (w : ℕ) → In w seen → T (not (A w)) → level G A w ≡ level G A u → T (not (blank labels w))
+
+  -- the level of a vertex without a label, and 65,535 for any other
+  pub record Pends (pending labels : List ℕ) : Type 0 where
+    pub extent : G .size ≤ length pending
+    pub levels : (v : ℕ) → v < G .size → getD pending v 0 ≡ cond (blank labels v) (level G A v) 65535
+
+-- ---- the same over the arrays of the code
+
+-- floods through an admitted table with the anchored bytes a
+pub record Floods (s l a pending labels queue : List ℕ) (next head tail : ℕ) : Type 0 where
+  pub admitted : Admitted s l a
+  pub flooding : Flooding (graphOf s l) (anchoredBy a) next head labels queue tail
+  pub pends : Pends (graphOf s l) (anchoredBy a) pending labels
+
+-- in the flood from `start` the vertex u, of level k, is to be visited
+pub record Visit (s l a pending labels queue : List ℕ) (k start u tail : ℕ) : Type 0 where
+  pub admitted : Admitted s l a
+  pub queued : Queued (graphOf s l) (anchoredBy a) (start + 1) labels queue tail
+  pub pends : Pends (graphOf s l) (anchoredBy a) pending labels
+  pub below : start < vertices s
+  pub vertex : u < vertices s
+  pub label : getD labels u 0 ≡ start
+  pub height : level (graphOf s l) (anchoredBy a) u ≡ k
+
+-- that is so with some bytes
+pub record CanVisit (s l pending labels queue : List ℕ) (k start u tail : ℕ) : Type 0 where
+  pub bytes : List ℕ
+  pub state : Visit s l bytes pending labels queue k start u tail
+
+-- the neighbors seen are a part of every such visit
+pub record Visits (s l pending labels queue : List ℕ) (k start u tail : ℕ) (seen pending′ labels′ queue′ : List ℕ) (tail′ : ℕ) : Type 0 where
+  pub moves : (a : List ℕ) → Visit s l a pending labels queue k start u tail
+      → Visiting (graphOf s l) (anchoredBy a) start u seen labels queue tail labels′ queue′ tail′ × Pends (graphOf s l) (anchoredBy a) pending′ labels′
+
+-- with some bytes the floods from vertices below `start` are done, and `start` is a vertex that is not anchored and has no label
+pub record CanSpread (s l pending labels queue : List ℕ) (start tail : ℕ) : Type 0 where
+  pub bytes : List ℕ
+  pub floods : Floods s l bytes pending labels queue start tail tail
+  pub free : T (not (anchoredBy bytes start))
+  pub vertex : start < vertices s
+  pub none : T (blank labels start)
+
+-- with all such bytes the flood from `start` is done
+pub record Spreads (s l pending labels queue : List ℕ) (start tail : ℕ) (pending′ labels′ queue′ : List ℕ) (tail′ : ℕ) : Type 0 where
+  pub moves : (a : List ℕ) → Floods s l a pending labels queue start tail tail → T (not (anchoredBy a start)) → Floods s l a pending′ labels′ queue′ (start + 1) tail′ tail′

@@ -3,17 +3,18 @@ use mathlib.Core.Path.{_≡_}
 use mathlib.Core.Logic.{_↔_}
 use mathlib.Core.Bool.{Bool, not, _&&_, _||_}
 use mathlib.Core.List.{List, [], _++_}
-use Prim.Native.Nat.{ℕ, _+_, _≤_, _<_}
+use Prim.Native.Nat.{ℕ, _+_, _*_, _≤_, _<_}
 use lib.ListN.{length, take, getD}
 use lib.Seq.{slice}
 use lib.Dec.{T, eqb}
 use Rattle.finite.specs.Count.{bit, below, count, In, Distinct}
 use Rattle.finite.specs.Search.{member}
 use Rattle.finite.specs.Pairs.{pairLe}
+use Rattle.table.specs.Table.{vertices}
 use Rattle.anchored.specs.Graph.{Graph, Simple}
 use Rattle.anchored.specs.Sheet.{atLeast}
 use Rattle.anchored.proofs.Sheet.{Fits}
-use Rattle.level.specs.Input.{anchoredBy}
+use Rattle.level.specs.Input.{graphOf, anchoredBy, Admitted}
 
 -- not anchored, and without a level yet
 abbrev pub unset : (ℕ → Bool) → (ℕ → ℕ) → ℕ → Bool
@@ -52,6 +53,17 @@ pub record Peeling (G : Graph) (A : ℕ → Bool) (deg lev lay : ℕ → ℕ) (k
       → (deg v ≡ count (present A lev lay k turn waiting) (G .neighbors v) + bit (member v due)) × (k ≤ deg v) × (v < seen → k < deg v)
   pub total : done + count (unset A lev) (below (G .size)) ≡ count (λ v. not (A v)) (below (G .size))
 
+-- In shell k, when the vertices below `seen` are seen, the degrees tell who is not to be removed any more.
+pub record Told (G : Graph) (A : ℕ → Bool) (deg lev : ℕ → ℕ) (k seen : ℕ) : Type 0 where
+  -- a vertex that is anchored or has its level has a degree of at most k
+  pub closed : (v : ℕ) → v < G .size → T (not (unset A lev v)) → deg v ≤ k
+  -- one with a level from a shell before has a degree below k
+  pub before : (v : ℕ) → v < G .size → T (not (A v)) → (lev v ≡ 65535 → ⊥) → seen ≤ v → deg v < k
+
+-- the degrees to begin with: that of an anchored vertex is 0, and nothing lowers it
+abbrev pub firstDegree : Graph → (ℕ → Bool) → ℕ → ℕ
+firstDegree G A v = bit (not (A v)) * length (G .neighbors v)
+
 -- ---- the same over the arrays of the code
 
 -- the number at place v of an array
@@ -59,8 +71,9 @@ abbrev pub at : List ℕ → ℕ → ℕ
 at xs v = getD xs v 0
 
 -- a peeling whose degrees, levels and layers are those of the arrays, with the anchored bytes a
-abbrev pub Peels : Graph → List ℕ → List ℕ → List ℕ → List ℕ → ℕ → ℕ → List ℕ → List ℕ → List ℕ → ℕ → ℕ → Type 0
-Peels G a degree level layer = Peeling G (anchoredBy a) (at degree) (at level) (at layer)
+pub record Peels (G : Graph) (a degree level layer : List ℕ) (k turn : ℕ) (waiting next due : List ℕ) (seen done : ℕ) : Type 0 where
+  pub peeling : Peeling G (anchoredBy a) (at degree) (at level) (at layer) k turn waiting next due seen done
+  pub told : Told G (anchoredBy a) (at degree) (at level) k seen
 
 -- each vertex has a byte, and a place in the scratch arrays
 abbrev pub Sized : Graph → List ℕ → Type 0
@@ -74,21 +87,36 @@ pub record Long (degree level layer queue : List ℕ) : Type 0 where
   pub places : length queue ≡ 1024
 
 -- some peeling has `part` due
-pub record CanStrike (a degree level layer : List ℕ) (k turn : ℕ) (part : List ℕ) (tail : ℕ) : Type 0 where
+pub record CanStrike (degree level layer : List ℕ) (k turn : ℕ) (part : List ℕ) (tail : ℕ) : Type 0 where
   pub graph : Graph
-  pub size : Sized graph a
+  pub bytes : List ℕ
+  pub size : Sized graph bytes
   pub waiting : List ℕ
   pub next : List ℕ
   pub due : List ℕ
-  pub state : Peels graph a degree level layer k turn waiting next (part ++ due) (graph .size) tail
+  pub state : Peels graph bytes degree level layer k turn waiting next (part ++ due) (graph .size) tail
 
 -- striking `part` is a step of every peeling that has it due; the vertices of the next turn are added to the queue
-pub record Strikes (a degree level layer queue degree′ level′ layer′ queue′ : List ℕ) (k turn : ℕ) (part : List ℕ) (tail tail′ : ℕ) : Type 0 where
-  pub moves : (G : Graph) → Sized G a → (waiting next due : List ℕ)
+pub record Strikes (degree level layer queue degree′ level′ layer′ queue′ : List ℕ) (k turn : ℕ) (part : List ℕ) (tail tail′ : ℕ) : Type 0 where
+  pub moves : (G : Graph) (a : List ℕ) → Sized G a → (waiting next due : List ℕ)
       → Peels G a degree level layer k turn waiting next (part ++ due) (G .size) tail
       → Peels G a degree′ level′ layer′ k turn waiting (next ++ slice tail tail′ queue′) due (G .size) tail′
   pub kept : take tail queue′ ≡ take tail queue
   pub grows : tail ≤ tail′
+  pub long : Long degree′ level′ layer′ queue′
+
+-- some peeling of the table has a batch waiting in the queue, from head up to end
+pub record CanRemove (s l degree level layer queue : List ℕ) (k turn head end : ℕ) : Type 0 where
+  pub bytes : List ℕ
+  pub admitted : Admitted s l bytes
+  pub state : Peels (graphOf s l) bytes degree level layer k turn (slice head end queue) [] [] (vertices s) end
+
+-- removing the batch is a step of every such peeling; the next batch stands after it
+pub record Removes (s l degree level layer queue degree′ level′ layer′ queue′ : List ℕ) (k turn head end tail : ℕ) : Type 0 where
+  pub moves : (a : List ℕ) → Admitted s l a
+      → Peels (graphOf s l) a degree level layer k turn (slice head end queue) [] [] (vertices s) end
+      → Peels (graphOf s l) a degree′ level′ layer′ k turn [] (slice end tail queue′) [] (vertices s) tail
+  pub grows : end ≤ tail
   pub long : Long degree′ level′ layer′ queue′
 
 -- some peeling is at the beginning of shell k, has seen the vertices below `seen`, and has all below `last`

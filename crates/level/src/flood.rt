@@ -1,45 +1,37 @@
-// Components: a flood from each vertex that has no number yet, in ascending order, through vertices of one level.
+// Components: a flood from each vertex that has no number yet, in ascending order, through vertices of one level. The array `pending` has
+// the level of a vertex without a number and 65,535 for any other, so that one test tells who joins a flood.
 ghost use mathlib.Core.Path.{_≡_};
-ghost use Prim.Native.Nat.{_+_, _≤_, _<_};
+ghost use Prim.Native.Nat.{_≤_};
 ghost use lib.ListN.{length, getD};
 ghost use Rattle.table.specs.Table.{vertices, neighbors};
 ghost use Rattle.anchored.specs.Core.{level as levelOf};
 ghost use Rattle.anchored.specs.Component.{component as componentOf};
 ghost use Rattle.level.specs.Input.{graphOf, anchoredBy, Admitted};
 ghost use Rattle.level.specs.Arrays.{Holds};
-ghost use Rattle.level.specs.Flooding.{Leveled, Queued, Flooding, Visiting, joins as joinsOf};
+ghost use Rattle.level.specs.Flooding.{CanVisit, Visits, CanSpread, Spreads};
 
-// Whether w is to get the number of u: it is not anchored, has none, and is of one level with u.
-fn joins(anchored: &[u8], level: &[u16], component: &[u16; 1024], u: usize, w: usize) -> bool
-    requires { ⌜ (w < length (now anchored)) × (w < length (now level)) × (u < length (now level)) × (w < 1024) ⌝ }
-    ensures { λ r. ⌜ r ≡ joinsOf (now (anchored .entry)) (now (level .entry)) (now (component .entry)) u w ⌝ }
-{
-    anchored[w] == 0 && component[w] == 65535 && level[w] == level[u]
-}
-
-// Numbers the neighbors of u that join it, and puts them at the end of the queue. The result is the new end.
+// Numbers the neighbors of u that join it, of level k and without a number, and puts them at the end of the queue. The result is the new end.
 fn visit(
     starts: &[u16],
     links: &[u16],
-    anchored: &[u8],
-    level: &[u16],
+    pending: &mut [u16; 1024],
     component: &mut [u16; 1024],
     queue: &mut [u16; 1024],
+    k: u16,
     start: usize,
     u: usize,
     tail: usize,
 ) -> usize
-    requires { ⌜ Leveled (now starts) (now links) (now anchored) (now level) ⌝ }
-    requires { ⌜ (start < vertices (now starts)) × (u < vertices (now starts)) × (getD (now component) u 0 ≡ start) ⌝ }
-    requires { ⌜ Queued (graphOf (now starts) (now links)) (anchoredBy (now anchored)) (start + 1) (now component) (now queue) tail ⌝ }
-    ensures { λ r. ⌜ Visiting (graphOf (now (starts .entry)) (now (links .entry))) (anchoredBy (now (anchored .entry))) start u (neighbors (now (starts .entry)) (now (links .entry)) u) (now (component .entry)) (now (queue .entry)) tail (now (component .exit)) (now (queue .exit)) r ⌝ }
+    requires { ⌜ CanVisit (now starts) (now links) (now pending) (now component) (now queue) k start u tail ⌝ }
+    ensures { λ r. ⌜ Visits (now (starts .entry)) (now (links .entry)) (now (pending .entry)) (now (component .entry)) (now (queue .entry)) k start u tail (neighbors (now (starts .entry)) (now (links .entry)) u) (now (pending .exit)) (now (component .exit)) (now (queue .exit)) r ⌝ }
 {
     let part = table::neighbors(starts, links, u);
     let mut end = tail;
     let mut j: usize = 0;
     while j < part.len() {
         let w = part[j] as usize;
-        if joins(anchored, level, component, u, w) {
+        if pending[w] == k {
+            pending[w] = 65535;
             component[w] = start as u16;
             queue[end] = w as u16;
             end += 1;
@@ -53,38 +45,37 @@ fn visit(
 fn spread(
     starts: &[u16],
     links: &[u16],
-    anchored: &[u8],
-    level: &[u16],
+    pending: &mut [u16; 1024],
     component: &mut [u16; 1024],
     queue: &mut [u16; 1024],
     start: usize,
     tail: usize,
 ) -> usize
-    requires { ⌜ Leveled (now starts) (now links) (now anchored) (now level) ⌝ }
-    requires { ⌜ (start < vertices (now starts)) × (getD (now anchored) start 0 ≡ 0) × (getD (now component) start 0 ≡ 65535) ⌝ }
-    requires { ⌜ Flooding (graphOf (now starts) (now links)) (anchoredBy (now anchored)) start tail (now component) (now queue) tail ⌝ }
-    ensures { λ r. ⌜ Flooding (graphOf (now (starts .entry)) (now (links .entry))) (anchoredBy (now (anchored .entry))) (start + 1) r (now (component .exit)) (now (queue .exit)) r ⌝ }
+    requires { ⌜ CanSpread (now starts) (now links) (now pending) (now component) (now queue) start tail ⌝ }
+    ensures { λ r. ⌜ Spreads (now (starts .entry)) (now (links .entry)) (now (pending .entry)) (now (component .entry)) (now (queue .entry)) start tail (now (pending .exit)) (now (component .exit)) (now (queue .exit)) r ⌝ }
 {
+    let k = pending[start];
+    pending[start] = 65535;
     component[start] = start as u16;
     queue[tail] = start as u16;
     let mut head = tail;
     let mut end = tail + 1;
     while head < end {
         let u = queue[head] as usize;
-        end = visit(
-            starts,
-            links,
-            anchored,
-            level,
-            component,
-            queue,
-            start,
-            u,
-            end,
-        );
+        end = visit(starts, links, pending, component, queue, k, start, u, end);
         head += 1;
     }
     end
+}
+
+// The first n levels: no vertex has a number yet.
+fn pend(level: &[u16], n: usize, pending: &mut [u16; 1024])
+    requires { ⌜ (n ≤ length (now level)) × (n ≤ 1024) × (length (now pending) ≡ 1024) ⌝ }
+    ensures { λ _. ⌜ (length (now (pending .exit)) ≡ 1024) × Holds (now (pending .exit)) n (λ v. getD (now (level .entry)) v 0) ⌝ }
+{
+    for v in 0..n {
+        pending[v] = level[v];
+    }
 }
 
 // The component number of every vertex, into the first n places; 65,535 for an anchored one. `level` holds the levels.
@@ -101,17 +92,18 @@ pub fn flood(
     ensures { λ _. ⌜ Holds (now (component .exit)) (vertices (now (starts .entry))) (componentOf (graphOf (now (starts .entry)) (now (links .entry))) (anchoredBy (now (anchored .entry)))) ⌝ }
 {
     let n = starts.len() - 1;
+    let mut pending = [0u16; 1024];
     let mut queue = [0u16; 1024];
     let mut tail: usize = 0;
     *component = [65535; 1024];
+    pend(level, n, &mut pending);
     let mut start: usize = 0;
     while start < n {
         if anchored[start] == 0 && component[start] == 65535 {
             tail = spread(
                 starts,
                 links,
-                anchored,
-                level,
+                &mut pending,
                 component,
                 &mut queue,
                 start,

@@ -6,24 +6,12 @@ ghost use Prim.Native.Nat.{_+_, _≤_, _<_};
 ghost use lib.ListN.{length, set, replicate};
 ghost use lib.Seq.{slice};
 ghost use Rattle.finite.specs.Count.{below, count};
-ghost use Rattle.table.specs.Table.{vertices, SoundTable};
-ghost use Rattle.table.specs.Table.{neighbors as neighborsOf};
+ghost use Rattle.table.specs.Table.{vertices};
 ghost use Rattle.anchored.specs.Core.{level as levelOf};
 ghost use Rattle.anchored.specs.Core.{layer as layerOf};
 ghost use Rattle.level.specs.Input.{graphOf, anchoredBy, Admitted};
 ghost use Rattle.level.specs.Arrays.{Holds};
-ghost use Rattle.level.specs.Peeling.{unset, at, Peels, Long, CanStrike, Strikes, CanLook, Looks};
-
-// Whether v is not anchored and has no level yet.
-fn is_unset(anchored: &[u8], level: &[u16; 1024], v: usize) -> bool
-    requires { ⌜ (v < length (now anchored)) × (v < 1024) ⌝ }
-    ensures { λ r. ⌜ r ≡ unset (anchoredBy (now (anchored .entry))) (at (now (level .entry))) v ⌝ }
-{
-    if anchored[v] == 1 {
-        return false;
-    }
-    level[v] == 65535
-}
+ghost use Rattle.level.specs.Peeling.{firstDegree, Peels, Long, CanStrike, Strikes, CanRemove, Removes, CanLook, Looks};
 
 // Gives v its level and its layer, and puts it at the end of the queue.
 fn settle(
@@ -44,9 +32,9 @@ fn settle(
     tail + 1
 }
 
-// Takes a removed neighbor from the degree of w, which goes in the next batch if that leaves it k neighbors.
+// Takes a removed neighbor from the degree of w, which goes in the next batch if that leaves it k neighbors. A degree of k or less is
+// that of a vertex which is anchored or has its level, and stays: no other array is read, and only the last test branches.
 fn strike(
-    anchored: &[u8],
     w: usize,
     k: u16,
     turn: u16,
@@ -58,14 +46,12 @@ fn strike(
 ) -> usize
     requires { ⌜ turn ≤ 1024 ⌝ }
     requires { ⌜ Long (now degree) (now level) (now layer) (now queue) ⌝ }
-    requires { ⌜ CanStrike (now anchored) (now degree) (now level) (now layer) k turn (w ∷ []) tail ⌝ }
-    ensures { λ r. ⌜ Strikes (now (anchored .entry)) (now (degree .entry)) (now (level .entry)) (now (layer .entry)) (now (queue .entry)) (now (degree .exit)) (now (level .exit)) (now (layer .exit)) (now (queue .exit)) k turn (w ∷ []) tail r ⌝ }
+    requires { ⌜ CanStrike (now degree) (now level) (now layer) k turn (w ∷ []) tail ⌝ }
+    ensures { λ r. ⌜ Strikes (now (degree .entry)) (now (level .entry)) (now (layer .entry)) (now (queue .entry)) (now (degree .exit)) (now (level .exit)) (now (layer .exit)) (now (queue .exit)) k turn (w ∷ []) tail r ⌝ }
 {
-    if !is_unset(anchored, level, w) {
-        return tail;
-    }
-    degree[w] -= 1;
-    if k < degree[w] {
+    let d = degree[w];
+    degree[w] = d - (k < d) as u16;
+    if d != k + 1 {
         return tail;
     }
     settle(w, k, turn + 1, level, layer, queue, tail)
@@ -74,7 +60,6 @@ fn strike(
 // Strikes every vertex of the part, the neighbors of a removed vertex.
 fn lower(
     part: &[u16],
-    anchored: &[u8],
     k: u16,
     turn: u16,
     degree: &mut [u16; 1024],
@@ -85,22 +70,12 @@ fn lower(
 ) -> usize
     requires { ⌜ turn ≤ 1024 ⌝ }
     requires { ⌜ Long (now degree) (now level) (now layer) (now queue) ⌝ }
-    requires { ⌜ CanStrike (now anchored) (now degree) (now level) (now layer) k turn (now part) tail ⌝ }
-    ensures { λ r. ⌜ Strikes (now (anchored .entry)) (now (degree .entry)) (now (level .entry)) (now (layer .entry)) (now (queue .entry)) (now (degree .exit)) (now (level .exit)) (now (layer .exit)) (now (queue .exit)) k turn (now (part .entry)) tail r ⌝ }
+    requires { ⌜ CanStrike (now degree) (now level) (now layer) k turn (now part) tail ⌝ }
+    ensures { λ r. ⌜ Strikes (now (degree .entry)) (now (level .entry)) (now (layer .entry)) (now (queue .entry)) (now (degree .exit)) (now (level .exit)) (now (layer .exit)) (now (queue .exit)) k turn (now (part .entry)) tail r ⌝ }
 {
     let mut end = tail;
     for j in 0..part.len() {
-        end = strike(
-            anchored,
-            part[j] as usize,
-            k,
-            turn,
-            degree,
-            level,
-            layer,
-            queue,
-            end,
-        );
+        end = strike(part[j] as usize, k, turn, degree, level, layer, queue, end);
     }
     end
 }
@@ -109,7 +84,6 @@ fn lower(
 fn batch(
     starts: &[u16],
     links: &[u16],
-    anchored: &[u8],
     head: usize,
     end: usize,
     k: u16,
@@ -119,21 +93,21 @@ fn batch(
     layer: &mut [u16; 1024],
     queue: &mut [u16; 1024],
 ) -> usize
-    requires { ⌜ Admitted (now starts) (now links) (now anchored) ⌝ }
     requires { ⌜ (head ≤ end) × (turn ≤ 1024) ⌝ }
     requires { ⌜ Long (now degree) (now level) (now layer) (now queue) ⌝ }
-    requires { ⌜ Peels (graphOf (now starts) (now links)) (now anchored) (now degree) (now level) (now layer) k turn (slice head end (now queue)) [] [] (vertices (now starts)) end ⌝ }
-    ensures { λ r. ⌜ (end ≤ r) × Long (now (degree .exit)) (now (level .exit)) (now (layer .exit)) (now (queue .exit)) × Peels (graphOf (now (starts .entry)) (now (links .entry))) (now (anchored .entry)) (now (degree .exit)) (now (level .exit)) (now (layer .exit)) k turn [] (slice end r (now (queue .exit))) [] (vertices (now (starts .entry))) r ⌝ }
+    requires { ⌜ CanRemove (now starts) (now links) (now degree) (now level) (now layer) (now queue) k turn head end ⌝ }
+    ensures { λ r. ⌜ Removes (now (starts .entry)) (now (links .entry)) (now (degree .entry)) (now (level .entry)) (now (layer .entry)) (now (queue .entry)) (now (degree .exit)) (now (level .exit)) (now (layer .exit)) (now (queue .exit)) k turn head end r ⌝ }
 {
     let mut tail = end;
     for i in head..end {
         let part = table::neighbors(starts, links, queue[i] as usize);
-        tail = lower(part, anchored, k, turn, degree, level, layer, queue, tail);
+        tail = lower(part, k, turn, degree, level, layer, queue, tail);
     }
     tail
 }
 
-// Puts v into the first batch of shell k, if it has no more than k neighbors left.
+// Puts v into the first batch of shell k, if it has no more than k neighbors left: no vertex without a level has fewer than k, and one
+// with a level has a degree below k. An anchored one has degree 0.
 fn look(
     anchored: &[u8],
     v: usize,
@@ -148,10 +122,10 @@ fn look(
     requires { ⌜ CanLook (now anchored) (now degree) (now level) (now layer) k v (v + 1) tail ⌝ }
     ensures { λ r. ⌜ Looks (now (anchored .entry)) (now (degree .entry)) (now (level .entry)) (now (layer .entry)) (now (queue .entry)) (now (level .exit)) (now (layer .exit)) (now (queue .exit)) k v (v + 1) tail r ⌝ }
 {
-    if !is_unset(anchored, level, v) {
+    if degree[v] != k {
         return tail;
     }
-    if k < degree[v] {
+    if anchored[v] == 1 {
         return tail;
     }
     settle(v, k, 1, level, layer, queue, tail)
@@ -213,7 +187,6 @@ fn shell(
         let next = batch(
             starts,
             links,
-            anchored,
             head,
             end,
             k,
@@ -239,15 +212,16 @@ fn fill(xs: &mut [u16], x: u16)
     }
 }
 
-// The number of neighbors of each vertex, into the first n places.
-fn degrees(starts: &[u16], links: &[u16], degree: &mut [u16; 1024])
-    requires { ⌜ SoundTable (now starts) (now links) ⌝ }
+// The number of neighbors of each vertex, 0 for an anchored one, into the first n places.
+fn degrees(starts: &[u16], links: &[u16], anchored: &[u8], degree: &mut [u16; 1024])
+    requires { ⌜ Admitted (now starts) (now links) (now anchored) ⌝ }
     requires { ⌜ length (now degree) ≡ 1024 ⌝ }
-    ensures { λ _. ⌜ (length (now (degree .exit)) ≡ 1024) × Holds (now (degree .exit)) (vertices (now (starts .entry))) (λ v. length (neighborsOf (now (starts .entry)) (now (links .entry)) v)) ⌝ }
+    ensures { λ _. ⌜ (length (now (degree .exit)) ≡ 1024) × Holds (now (degree .exit)) (vertices (now (starts .entry))) (firstDegree (graphOf (now (starts .entry)) (now (links .entry))) (anchoredBy (now (anchored .entry)))) ⌝ }
 {
     let n = starts.len() - 1;
     for v in 0..n {
-        degree[v] = table::neighbors(starts, links, v).len() as u16;
+        let part = table::neighbors(starts, links, v);
+        degree[v] = (anchored[v] != 1) as u16 * part.len() as u16;
     }
 }
 
@@ -277,7 +251,7 @@ pub fn peel(
 {
     let mut degree = [0u16; 1024];
     let mut queue = [0u16; 1024];
-    degrees(starts, links, &mut degree);
+    degrees(starts, links, anchored, &mut degree);
     fill(level, 65535);
     fill(layer, 0);
     let free = count_free(anchored, starts.len() - 1);

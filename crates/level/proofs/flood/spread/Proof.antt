@@ -1,89 +1,112 @@
 -- `flood::spread` meets its contract. The invariant: of the queue the first `head` agree with all beside them, the others are numbered `start`. Assumes nothing.
 use mathlib.Core.Path.{_≡_}
-use Prim.Native.Nat.{_+_, _-_}
+use mathlib.Core.List.{List}
+use Prim.Native.Nat.{ℕ, _+_, _-_, _<_}
 use native.Mathlib.Omega.{arith}
-use borrow.Author.Needs.{needs}
-use Rattle.finite.proofs.Tests.{eqb-of}
+use lib.ListN.{getD, set}
 use Rattle.table.specs.Table.{vertices}
-use Rattle.level.specs.Input.{graphOf, anchoredBy}
-use Rattle.level.specs.Flooding.{Flooding}
-use Rattle.level.proofs.Laws.{simple, byte-free}
-use Rattle.level.proofs.Flooding.{room, seed, advance}
+use Rattle.level.proofs.Flooding.{room, Spread, spread-seed, spread-visit, spread-next}
 use Rattle.level.proofs.flood.spread.Statement.{statement}
 use Rattle.level.proofs.flood.spread.Tie as tie
 
 abbrev Inv-loop : tie.InvT-loop
-Inv-loop starts links anchored level component₀ queue₀ start tail head₀ end₀ component queue head end = Flooding (graphOf starts links) (anchoredBy anchored) (start + 1) head component queue end
+Inv-loop starts links pending₀ component₀ queue₀ start tail k head₀ end₀ pending component queue head end = (a : List ℕ) → Spread starts links a pending₀ component₀ queue₀ k start head₀ end₀ → Spread starts links a pending component queue k start head end
 
 abbrev μ-loop : tie.MeasureT-loop
-μ-loop starts links anchored level component₀ queue₀ start tail head₀ end₀ component queue head end = vertices starts - head
+μ-loop starts links pending₀ component₀ queue₀ start tail k head₀ end₀ pending component queue head end = vertices starts - head
+
+-- the start has a place in the arrays, and in the queue
+place : (c : tie.Start Inv-loop μ-loop) → (c .args .start < 1024) × (c .args .tail < 1024)
+place c =
+    let p = c .pre in
+    omega (arith, room (p .floods .flooding .queued) (c .args .start) (p .vertex) (p .none), p .vertex, p .floods .admitted .table .small)
+
+-- the flood begins
+begun :
+    (c : tie.Start Inv-loop μ-loop) →
+    let a = c .args in
+    Spread (a .starts .now) (a .links .now) (c .pre .bytes) (set (a .pending .now) (a .start) 65535) (set (a .component .now) (a .start) (a .start)) (set (a .queue .now) (a .tail) (a .start)) (getD (a .pending .now) (a .start) 0) (a .start) (a .tail) (a .tail + 1)
+begun c = let p = c .pre in spread-seed (p .floods) (p .free) (p .vertex) (p .none)
+
+mul-k : tie.Need-mul-k Inv-loop μ-loop
+mul-k c = omega (arith, place (c .before .before))
+
+element-copy-out-k : tie.Need-element-copy-out-k Inv-loop μ-loop
+element-copy-out-k c = omega (arith, place (c .before .before))
+
+mul-pending : tie.Need-mul-pending Inv-loop μ-loop
+mul-pending c = omega (arith, place (c .before .before .before))
+
+element-write-pending : tie.Need-element-write-pending Inv-loop μ-loop
+element-write-pending c = omega (arith, place (c .before .before .before))
 
 cast-component : tie.Need-cast-component Inv-loop μ-loop
-cast-component c = search needs
+cast-component c = omega (arith, place (c .before .before .before))
 
 mul-component : tie.Need-mul-component Inv-loop μ-loop
-mul-component c = search needs
+mul-component c = omega (arith, place (c .before .before .before))
 
 element-write-component : tie.Need-element-write-component Inv-loop μ-loop
-element-write-component c = search needs
+element-write-component c = omega (arith, place (c .before .before .before))
 
 cast-queue : tie.Need-cast-queue Inv-loop μ-loop
-cast-queue c = search needs
+cast-queue c = omega (arith, place (c .before .before .before))
 
 mul-queue : tie.Need-mul-queue Inv-loop μ-loop
-mul-queue c = search needs
+mul-queue c = omega (arith, place (c .before .before .before))
 
 element-write-queue : tie.Need-element-write-queue Inv-loop μ-loop
-element-write-queue c =
-    let start = c .before .before .before .before in
-    omega (arith, room (start .pre .1 .1 .queued) (start .args .start) (start .pre .1 .0 .0) (eqb-of _ _ (start .pre .1 .0 .2)), start .pre .0 .admitted .table .small)
+element-write-queue c = omega (arith, place (c .before .before .before))
 
 add-end : tie.Need-add-end Inv-loop μ-loop
-add-end c = search needs
+add-end c = omega (arith, place (c .before .before .before))
 
 loop-holds : tie.Need-loop-holds Inv-loop μ-loop
-loop-holds c =
-    let given = c .before .before .before .before .pre in
-    let free = byte-free _ _ _ (given .0 .admitted) _ (given .1 .0 .1) in
-    seed (given .1 .1) (given .0 .admitted .table .small) (given .1 .0 .0) free (eqb-of _ _ (given .1 .0 .2))
+loop-holds c = λ a F. F
+
+-- the first that waits is a vertex, and the queue holds no more than there are
+waits : (c : tie.In-loop Inv-loop μ-loop) → (getD (c .before .loop .queue) (c .before .loop .head) 0 < 1024) × (c .before .loop .head < vertices (c .before .before .before .before .before .args .starts .now)) × (vertices (c .before .before .before .before .before .args .starts .now) < 1025)
+waits c =
+    let at = c .before in
+    let start = at .before .before .before .before in
+    let f = at .loop .inv _ (begun start) .floods in
+    let q = f .flooding .queued in
+    omega (arith, q .held (at .loop .head) (c .loop-test .taken) .0, q .total, f .admitted .table .small, c .loop-test .taken)
 
 mul-u : tie.Need-mul-u Inv-loop μ-loop
-mul-u c = search needs
+mul-u c = omega (arith, waits c)
 
 element-copy-out-u : tie.Need-element-copy-out-u Inv-loop μ-loop
-element-copy-out-u c = search needs
+element-copy-out-u c = omega (arith, waits c)
 
 cast-u : tie.Need-cast-u Inv-loop μ-loop
-cast-u c =
-    let at = c .before .before in
-    omega (arith, at .loop .inv .queued .held (at .loop .head) (c .before .loop-test .taken) .0)
+cast-u c = omega (arith, waits (c .before))
 
 visit-requires : tie.Need-visit-requires Inv-loop μ-loop
 visit-requires c κs =
-    let at = c .before .before .before .before in
-    let given = at .before .before .before .before .before .pre in
-    let head = at .loop .head in
-    let taken = c .before .before .before .loop-test .taken in
-    let label = at .loop .inv .waiting head (omega arith) taken in
-    (given .0, ((given .1 .0 .0, at .loop .inv .queued .held head taken .0, omega arith), at .loop .inv .queued))
+    let inside = c .before .before .before .before in
+    let at = inside .before in
+    let start = at .before .before .before .before in
+    record { bytes = start .pre .bytes; state = spread-visit (at .loop .inv _ (begun start)) (inside .loop-test .taken) }
 
 add-head : tie.Need-add-head Inv-loop μ-loop
-add-head c = search needs
+add-head c = omega (arith, waits (c .before .before .before .before .before))
 
 loop-less : tie.Need-loop-less Inv-loop μ-loop
-loop-less c = search needs
+loop-less c = omega (arith, waits (c .before .before .before .before .before))
 
 loop-again : tie.Need-loop-again Inv-loop μ-loop
 loop-again c =
-    let at = c .before .before .before .before .before in
-    let table = at .before .before .before .before .before .pre .0 .admitted .table in
-    advance (simple _ _ table) (at .loop .inv) (c .before .before .before .before .loop-test .taken) (c .visit .ensures)
+    let inside = c .before .before .before .before .before in
+    λ a F. spread-next (inside .before .loop .inv a F) (inside .loop-test .taken) (c .visit .ensures)
 
 returns : tie.Need-returns Inv-loop μ-loop
 returns c =
     let at = c .before in
-    let done : at .loop .head ≡ at .loop .end = omega (arith, at .loop .inv .within) in
-    rw done at (at .loop .inv)
+    let p = at .before .before .before .before .pre in
+    let within = at .loop .inv _ (begun (at .before .before .before .before)) .floods .flooding .within in
+    let done : at .loop .head ≡ at .loop .end = omega arith in
+    record { moves = λ a f free. (rw done at (at .loop .inv)) a (spread-seed f free (p .vertex) (p .none)) .floods }
 
 pub spread-spec : {M : Type 1} → statement M
 spread-spec =
@@ -91,6 +114,10 @@ spread-spec =
     (tie.spec
     Inv-loop
     μ-loop
+    mul-k
+    element-copy-out-k
+    mul-pending
+    element-write-pending
     cast-component
     mul-component
     element-write-component

@@ -11,13 +11,13 @@ use Rattle.level.proofs.peel.lower.Tie as tie
 use borrow.Author.Needs.{needs}
 
 abbrev Inv-loop : tie.InvT-loop
-Inv-loop part anchored k turn degree₀ level₀ layer₀ queue₀ tail end₀ j₀ j-end degree level layer queue end j = (j ≤ length part) × (j-end ≡ length part) × Strikes anchored degree₀ level₀ layer₀ queue₀ degree level layer queue k turn (take j part) tail end
+Inv-loop part k turn degree₀ level₀ layer₀ queue₀ tail end₀ j₀ j-end degree level layer queue end j = (j ≤ length part) × (j-end ≡ length part) × Strikes degree₀ level₀ layer₀ queue₀ degree level layer queue k turn (take j part) tail end
 
 abbrev μ-loop : tie.MeasureT-loop
-μ-loop part anchored k turn degree₀ level₀ layer₀ queue₀ tail end₀ j₀ j-end degree level layer queue end j = length part - j
+μ-loop part k turn degree₀ level₀ layer₀ queue₀ tail end₀ j₀ j-end degree level layer queue end j = length part - j
 
 loop-holds : tie.Need-loop-holds Inv-loop μ-loop
-loop-holds c = (search needs, search needs, strikes-none (c .before .before .pre .1 .0))
+loop-holds c = (search needs, search needs, strikes-none (c .before .pre .1 .0))
 
 mul-strike : tie.Need-mul-strike Inv-loop μ-loop
 mul-strike c = search needs
@@ -26,11 +26,11 @@ shared-slice-read-strike : tie.Need-shared-slice-read-strike Inv-loop μ-loop
 shared-slice-read-strike c = search needs
 
 cast-strike : tie.Need-cast-strike Inv-loop μ-loop
-cast-strike c = omega (arith, c .shared-slice-known3 .given (c .before .before .loop .j))
+cast-strike c = omega (arith, c .shared-slice-known2 .given (c .before .before .loop .j))
 
 strike-requires : tie.Need-strike-requires Inv-loop μ-loop
 strike-requires c κs =
-    let start = c .before .before .before .before .before .before .before .before .before in
+    let start = c .before .before .before .before .before .before .before .before in
     let at = c .before .before .before .before .before .before in
     let within : at .loop .j < length (start .args .part .now) = omega arith in
     (start .pre .0, (at .loop .inv .2 .long, can-strike-next _ (at .loop .inv .2) within (start .pre .1 .1)))
@@ -43,14 +43,14 @@ loop-less c = search needs
 
 loop-again : tie.Need-loop-again Inv-loop μ-loop
 loop-again c =
-    let start = c .before .before .before .before .before .before .before .before .before .before in
+    let start = c .before .before .before .before .before .before .before .before .before in
     let at = c .before .before .before .before .before .before .before in
     let within : at .loop .j < length (start .args .part .now) = omega arith in
     (omega arith, at .loop .inv .1, strikes-more _ (at .loop .inv .2) within (c .strike .ensures))
 
 returns : tie.Need-returns Inv-loop μ-loop
 returns c =
-    let all : length (c .before .before .before .before .args .part .now) ≤ c .before .loop .j = omega arith in
+    let all : length (c .before .before .before .args .part .now) ≤ c .before .loop .j = omega arith in
     rw (take-all _ _ all) at (c .before .loop .inv .2)
 
 pub lower-spec : {M : Type 1} → statement M

@@ -11,7 +11,8 @@ use Rattle.level.specs.Input.{graphOf, anchoredBy}
 use Rattle.level.specs.Peeling.{Peels, Long}
 use Rattle.level.proofs.Laws.{simple}
 use Rattle.level.proofs.Arrays.{filled-holds}
-use Rattle.level.proofs.Peeling.{begin, k-below, finish}
+use Rattle.level.proofs.Peeling.{k-below, finish}
+use Rattle.level.proofs.Steps.{first-shell}
 use Rattle.level.proofs.peel.peel.Statement.{statement}
 use Rattle.level.proofs.peel.peel.Tie as tie
 use borrow.Author.Needs.{needs}
@@ -29,10 +30,10 @@ free-count c = c .count-free .ensures
 
 -- while a vertex has no level, k is below the number of vertices
 k-small : (c : tie.In-loop Inv-loop μ-loop) → c .before .loop .k < vertices (c .before .before .before .before .before .before .before .before .before .before .before .before .args .starts .now)
-k-small c = k-below (c .before .loop .inv .2) (omega (arith, c .loop-test .taken, free-count (c .before .before)))
+k-small c = k-below (c .before .loop .inv .2 .peeling) (omega (arith, c .loop-test .taken, free-count (c .before .before)))
 
 degrees-requires : tie.Need-degrees-requires Inv-loop μ-loop
-degrees-requires c κs = (c .before .before .before .before .pre .table, refl)
+degrees-requires c κs = (c .before .before .before .before .pre, refl)
 
 fill-requires : tie.Need-fill-requires Inv-loop μ-loop
 fill-requires c κs = search needs
@@ -57,7 +58,7 @@ loop-holds c =
     let f = rw long-layer at (c .before .fill2 .ensures) in (
       omega arith,
       record { degrees = d .0; levels = ap length e ∙ length-replicate {A = ℕ} 1024 65535; layers = ap length f ∙ length-replicate {A = ℕ} 1024 0; places = refl },
-      begin (graphOf (start .args .starts .now) (start .args .links .now)) (simple _ _ t) (anchoredBy (start .args .anchored .now)) _ _ _ (d .1) (filled-holds _ 1024 65535 _ e (t .small)) (filled-holds _ 1024 0 _ f (t .small)),
+      first-shell (graphOf (start .args .starts .now) (start .args .links .now)) (simple _ _ t) (start .args .anchored .now) _ _ _ (d .1) (filled-holds _ 1024 65535 _ e (t .small)) (filled-holds _ 1024 0 _ f (t .small)),
     )
 
 shell-requires : tie.Need-shell-requires Inv-loop μ-loop
@@ -80,7 +81,7 @@ loop-again c = (omega (arith, k-small (c .before .before .before .before .before
 
 returns : tie.Need-returns Inv-loop μ-loop
 returns c =
-    let all = finish (c .before .loop .inv .2) (omega (arith, c .loop-test .left, free-count (c .before .before))) in
+    let all = finish (c .before .loop .inv .2 .peeling) (omega (arith, c .loop-test .left, free-count (c .before .before))) in
     (λ v b. all v b .0, λ v b. all v b .1)
 
 pub peel-spec : {M : Type 1} → statement M

@@ -8,7 +8,8 @@ use lib.Seq.{slice, slice-empty}
 use Rattle.table.specs.Table.{vertices}
 use Rattle.level.specs.Input.{graphOf}
 use Rattle.level.specs.Peeling.{Peels, Long}
-use Rattle.level.proofs.Peeling.{room-all, advance, rise}
+use Rattle.level.proofs.Peeling.{room-all}
+use Rattle.level.proofs.Steps.{next-turn, next-shell}
 use Rattle.level.proofs.peel.shell.Statement.{statement}
 use Rattle.level.proofs.peel.shell.Tie as tie
 
@@ -40,14 +41,14 @@ loop-holds c =
     let start = c .before .before .before .before .before .before .before .before in
     let p = start .pre in
     let s = c .seed .ensures in
-    let first = advance (s .moves (graphOf (start .args .starts .now) (start .args .links .now)) (p .0 .long, p .0 .table .small) (omega arith) [] (p .1 .1 .1)) in
-    (s .grows, omega (arith, room-all first, p .0 .table .small), omega arith, s .long, first)
+    let first = next-turn _ _ (s .moves (graphOf (start .args .starts .now) (start .args .links .now)) (p .0 .long, p .0 .table .small) (omega arith) [] (p .1 .1 .1)) in
+    (s .grows, omega (arith, room-all (first .peeling), p .0 .table .small), omega arith, s .long, first)
 
 batch-requires : tie.Need-batch-requires Inv-loop μ-loop
 batch-requires c κs =
     let p = c .before .before .before .before .before .before .before .before .before .before .before .before .before .before .pre in
     let inv = c .before .before .before .before .before .loop .inv in
-    (p .0, ((inv .0, omega (arith, inv .1, inv .2, c .before .before .before .before .loop-test .taken)), (inv .3, inv .4)))
+    ((inv .0, omega (arith, inv .1, inv .2, c .before .before .before .before .loop-test .taken)), (inv .3, record { bytes = _; admitted = p .0; state = inv .4 }))
 
 add-turn : tie.Need-add-turn Inv-loop μ-loop
 add-turn c =
@@ -64,14 +65,15 @@ loop-again c =
     let p = c .before .before .before .before .before .before .before .before .before .before .before .before .before .before .before .pre in
     let inv = c .before .before .before .before .before .before .loop .inv in
     let b = c .batch .ensures in
-    (b .0, omega (arith, room-all (b .2), p .0 .table .small), omega (arith, inv .2, c .before .before .before .before .before .loop-test .taken), b .1, advance (b .2))
+    let next = b .moves _ (p .0) (inv .4) in
+    (b .grows, omega (arith, room-all (next .peeling), p .0 .table .small), omega (arith, inv .2, c .before .before .before .before .before .loop-test .taken), b .long, next-turn _ _ next)
 
 returns : tie.Need-returns Inv-loop μ-loop
 returns c =
     let p = c .before .before .before .before .before .before .before .before .before .before .pre in
     let loop = c .before .loop in
     let over : loop .head ≡ loop .end = omega (arith, loop .inv .0) in
-    (loop .inv .3, rise (rw (over, slice-empty (loop .end) (loop .queue)) at (loop .inv .4)) (omega (arith, p .1 .0)))
+    (loop .inv .3, next-shell _ _ (rw (over, slice-empty (loop .end) (loop .queue)) at (loop .inv .4)) (omega (arith, p .1 .0)))
 
 pub shell-spec : {M : Type 1} → statement M
 shell-spec =
