@@ -1,0 +1,128 @@
+-- A text is refused with the numbers that document 01 lists for texts, and with no other. Assumes nothing.
+use mathlib.Core.Path.{_≡_, refl, sym, ap, _∙_, subst}
+use mathlib.Core.Bool.{Bool, true, false, cond}
+use mathlib.Core.List.{List, [], _∷_}
+use Prim.Native.Nat.{ℕ, _+_, _-_, _≤_, _<_}
+use native.Mathlib.Omega.{arith}
+use lib.ListN.{length, getD}
+use lib.Dec.{T, ltb, eqb, eqb→eq}
+use borrow.Author.Tests.{le-ltb, ne-eqb, eq-eqb}
+use Rattle.finite.specs.Search.{any, member, first, NoneBelow}
+use Rattle.finite.proofs.Tests.{split, true-of, false-of, neqb}
+use Rattle.table.specs.Table.{vertices, badStart, wrongEnd, wrongStep, beyond, looped, unsorted, unreturned, refused, refuse as searched, checkOf}
+use Rattle.table.specs.declared.Refusal.{Refusal}
+use Rattle.table.specs.declared.Checked.{Checked}
+use Rattle.table.specs.declared.Checked.the-variants.{Sound, Refused as TableRefused}
+use Rattle.table.proofs.Laws.{pass}
+use Rattle.text.specs.Text.{readingOf, startsRead, linksRead, riderLinesRead}
+use Rattle.text.specs.declared.read.Summary.{Summary}
+use Rattle.text.specs.declared.read.Reading.{Reading}
+use Rattle.text.specs.declared.read.Reading.the-variants.{Read, Departs}
+use Rattle.text.proofs.Arrays.{table-read}
+use Rattle.answer.specs.Answer.{refuse, roomOf, sizeOf, askedOf, answerOf}
+use Rattle.answer.specs.declared.call.Answered.{Answered}
+use Rattle.answer.specs.declared.call.Answered.the-variants.{Sheet, Refused}
+
+-- 17, 18, then 2, 3, 5, 6, 7, 8, 11, 12, 15
+abbrev pub ofTexts : ℕ → Bool
+ofTexts k = member k (17 ∷ 18 ∷ 2 ∷ 3 ∷ 5 ∷ 6 ∷ 7 ∷ 8 ∷ 11 ∷ 12 ∷ 15 ∷ [])
+
+-- the starts that were read pass test 4
+starts-good : (t : List ℕ) (asked : Summary) → readingOf t ≡ Read asked → NoneBelow (badStart (startsRead t) (linksRead t)) (length (startsRead t))
+unfolding badStart
+starts-good t asked e i h =
+    let laid = table-read t asked e in
+    let s = startsRead t in
+    let l = linksRead t in
+    let end : wrongEnd s l i ≡ false = split (eqb (i + 1) (length s))
+    (λ p.
+    let q : i ≡ length (riderLinesRead t .lists) = omega (arith, eqb→eq (i + 1) (length s) p, laid .count) in
+    rw (true-of (eqb (i + 1) (length s)) p, eq-eqb (getD s i 0) (length l) (ap (λ j. getD s j 0) q ∙ laid .last)))
+    (λ p. rw (false-of (eqb (i + 1) (length s)) p)) in
+    let step : wrongStep s i ≡ false = split (eqb i 0)
+    (λ p.
+    let q : getD s i 0 ≡ 0 = ap (λ j. getD s j 0) (eqb→eq i 0 p) ∙ laid .first in
+    rw (true-of (eqb i 0) p, eq-eqb (getD s i 0) 0 q))
+    (λ p.
+    let some = neqb i 0 p in
+    let q : i - 1 + 1 ≡ i = omega arith in
+    let up : getD s (i - 1) 0 ≤ getD s i 0 = subst (λ j. getD s (i - 1) 0 ≤ getD s j 0) q (laid .step (i - 1) (omega (arith, laid .count))) in
+    rw (false-of (eqb i 0) p, le-ltb (getD s i 0) (getD s (i - 1) 0) up)) in
+    rw (end, step)
+
+module _ (x : Refusal) where
+  abbrev Listed : Type 0
+  Listed = T (ofTexts (x .number))
+
+  -- a refusal is this one, or comes later
+  told : (k p : ℕ) → T (ofTexts k) → _≡_ {A = Answered} (refuse k p) (Refused x) → Listed
+  told k p h e = let q : k ≡ x .number = cc in subst (λ j. T (ofTexts j)) q h
+
+  next : (b : Bool) (k p : ℕ) (rest : Answered) → T (ofTexts k) → cond b (refuse k p) rest ≡ Refused x → (rest ≡ Refused x → Listed) → Listed
+  next true k p rest h e later = told k p h e
+  next false k p rest h e later = later e
+
+  -- the same for the check of the table
+  next-checked : (k : ℕ) (p : ℕ → Bool) (n : ℕ) (rest : Checked) → T (ofTexts k) → searched k p n rest ≡ TableRefused x → (rest ≡ TableRefused x → Listed) → Listed
+  next-checked k p n rest h e later = go (ltb (first p n) n) e
+    where
+      go : (b : Bool) → cond b (refused k (first p n)) rest ≡ TableRefused x → Listed
+      go true e = let q : k ≡ x .number = cc in subst (λ j. T (ofTexts j)) q h
+      go false e = later e
+
+  sound-not : _≡_ {A = Checked} Sound (TableRefused x) → Listed
+  sound-not e = let z : _≡_ {A = ℕ} 0 1 = cc in absurd (omega arith)
+
+  sheet-not : (size : ℕ) → _≡_ {A = Answered} (Sheet size) (Refused x) → Listed
+  sheet-not size e = let z : _≡_ {A = ℕ} 0 1 = cc in absurd (omega arith)
+
+  next-tested : (b : Bool) (k p : ℕ) (rest : Checked) → T (ofTexts k) → cond b (refused k p) rest ≡ TableRefused x → (rest ≡ TableRefused x → Listed) → Listed
+  next-tested true k p rest h e later = let q : k ≡ x .number = cc in subst (λ j. T (ofTexts j)) q h
+  next-tested false k p rest h e later = later e
+
+  -- a table with a start and no bad one is refused 2, 3, 5, 6, 7 or 8
+  table-listed : (s l : List ℕ) → 0 < length s → NoneBelow (badStart s l) (length s) → checkOf s l ≡ TableRefused x → Listed
+  unfolding checkOf any
+  table-listed s l some none e =
+      let n = vertices s in
+      let eight = searched 8 (unreturned s l) n Sound in
+      let seven = searched 7 (unsorted s l) n eight in
+      let six = searched 6 (looped s l) n seven in
+      let five = searched 5 (beyond s l) n six in
+      let four = searched 4 (badStart s l) (length s) five in
+      let three = cond (ltb 16384 (length l)) (refused 3 0) four in
+      next-tested (ltb 1024 n) 2 0 three tt (rw (ne-eqb (length s) 0 (λ q. absurd (omega arith))) at e) (λ e₂.
+      next-tested (ltb 16384 (length l)) 3 0 four tt e₂ (λ e₃.
+      next-checked 5 (beyond s l) n six tt (sym (pass 4 (badStart s l) (length s) five none) ∙ e₃) (λ e₅.
+      next-checked 6 (looped s l) n seven tt e₅ (λ e₆.
+      next-checked 7 (unsorted s l) n eight tt e₆ (λ e₇.
+      next-checked 8 (unreturned s l) n Sound tt e₇ sound-not)))))
+
+  room-listed : (asked : Summary) (room : ℕ) → roomOf asked room ≡ Refused x → Listed
+  unfolding any
+  room-listed asked room e =
+      next (ltb 60 (asked .rounds)) 11 0 _ tt e (λ e₁.
+      next (ltb room (sizeOf asked)) 12 0 _ tt e₁ (λ e₂.
+      next (ltb (asked .beyond) 65536) 15 (asked .beyond) _ tt e₂ (sheet-not (sizeOf asked))))
+
+  asked-listed : (asked : Summary) (s l : List ℕ) (room : ℕ) → 0 < length s → NoneBelow (badStart s l) (length s) → askedOf asked s l room ≡ Refused x → Listed
+  unfolding askedOf any
+  asked-listed asked s l room some none e =
+      next (ltb 1024 (asked .riders)) 2 0 _ tt e (λ e₁.
+      next (ltb 16384 (asked .links)) 3 0 _ tt e₁ (go (checkOf s l) refl))
+    where
+      go : (c : Checked) → checkOf s l ≡ c → (elim c [ Sound ↦ roomOf asked room | TableRefused y ↦ Refused y ]) ≡ Refused x → Listed
+      go Sound q e = room-listed asked room e
+      go (TableRefused y) q e = table-listed s l some none (q ∙ ap TableRefused (same y e))
+        where
+          same : (y : Refusal) → _≡_ {A = Answered} (Refused y) (Refused x) → y ≡ x
+          same y e = cc
+
+  -- no other number: never 1, 4, 9, 10, 13, 14 or 16
+  pub refused-listed : (t : List ℕ) (room : ℕ) → answerOf t room ≡ Refused x → T (ofTexts (x .number))
+  unfolding answerOf any
+  refused-listed t room e = next (ltb 65536 (length t)) 17 0 _ tt e (go (readingOf t) refl)
+    where
+      go : (c : Reading) → readingOf t ≡ c → (elim c [ Read asked ↦ askedOf asked (startsRead t) (linksRead t) room | Departs line ↦ refuse 18 line ]) ≡ Refused x → Listed
+      go (Read asked) q e = asked-listed asked (startsRead t) (linksRead t) room (omega (arith, table-read t asked q .count)) (starts-good t asked q) e
+      go (Departs line) q e = told 18 line tt e
