@@ -1,4 +1,5 @@
 pub mod Numbers
+pub mod Readers
 pub mod Forms
 pub mod Lists
 pub mod Lines

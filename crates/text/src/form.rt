@@ -3,7 +3,7 @@ ghost use mathlib.Core.Path.{_≡_};
 ghost use Rattle.text.specs.Form.{skipAt, formAt};
 use crate::number::Cursor;
 use crate::number::Number;
-use crate::number::take_number;
+use crate::reader::take_number;
 
 // Where the text goes on, or that it departs from the form.
 pub enum Next {

@@ -2,13 +2,14 @@
 ghost use mathlib.Core.Path.{_≡_};
 ghost use mathlib.Core.Bool.{_&&_};
 ghost use Prim.Native.Nat.{_≤_};
-ghost use lib.ListN.{getD, set};
+ghost use lib.ListN.{set};
 ghost use lib.Seq.{sets};
 ghost use lib.Dec.{leb};
 ghost use Rattle.text.specs.List.{listAt, listedOf, orBeyond, retainedOf, anchor as anchorOf};
 use crate::number::Cursor;
 use crate::number::Number;
-use crate::number::take_number;
+use crate::reader::byte_at;
+use crate::reader::take_number;
 
 // Stands where there is no number of n or more: above every number.
 pub const NONE: usize = 65536;
@@ -17,13 +18,6 @@ pub const NONE: usize = 65536;
 pub enum Listed {
     Ends(usize, Cursor),
     Departs,
-}
-
-// The byte at a place of the text, or 0 past its end.
-fn byte_at(text: &[u8], place: usize) -> u8
-    ensures { λ r. ⌜ r ≡ getD (now (text .entry)) place 0 ⌝ }
-{
-    if place < text.len() { text[place] } else { 0 }
 }
 
 // Stores the number where there is room for it.

@@ -29,11 +29,10 @@ fn digit_at(text: &[u8], place: usize) -> u32
     10
 }
 
-// The number that the text has from the cursor on. Reading stops before a value would overflow.
-pub fn take_number(text: &[u8], from: Cursor) -> Number
-    ensures { λ r. ⌜ r ≡ numberAt (now (text .entry)) (from .at) ⌝ }
+// The number that the text has from a place on. Reading stops before a value would overflow.
+pub fn number_at(text: &[u8], at: usize) -> Number
+    ensures { λ r. ⌜ r ≡ numberAt (now (text .entry)) at ⌝ }
 {
-    let at = from.at;
     let first = digit_at(text, at);
     if first >= 10 {
         return Number::Missing;

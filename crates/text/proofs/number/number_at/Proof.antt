@@ -1,12 +1,12 @@
--- `number::take_number` meets its contract. The loop's invariant: the digits before the place make the value. Assumes nothing.
+-- `number::number_at` meets its contract. The loop's invariant: the digits before the place make the value. Assumes nothing.
 use mathlib.Core.Path.{_≡_, sym}
 use Prim.Native.Nat.{_+_, _*_, _-_, _≤_, _<_}
 use native.Mathlib.Omega.{arith}
 use lib.ListN.{length}
 use borrow.Author.Needs.{needs}
 use Rattle.text.proofs.Numbers.{digit-in, number-none, number-leading, number-zero, Scanning, scanning-first, scanning-more, scanning-over, scanning-done}
-use Rattle.text.proofs.number.take_number.Statement.{statement}
-use Rattle.text.proofs.number.take_number.Tie as tie
+use Rattle.text.proofs.number.number_at.Statement.{statement}
+use Rattle.text.proofs.number.number_at.Tie as tie
 
 abbrev Inv-loop : tie.InvT-loop
 Inv-loop text at first place₀ digit₀ value₀ place digit value = Scanning text at place digit value
@@ -23,7 +23,7 @@ returns c = sym (number-none _ _ (omega (arith, c .before .digit-at .ensures)))
 add-place : tie.Need-add-place Inv-loop μ-loop
 add-place c =
     let start = c .before .before .before in
-    omega (arith, digit-in (start .args .text .now) (start .args .from .at) (omega (arith, c .before .digit-at .ensures)))
+    omega (arith, digit-in (start .args .text .now) (start .args .at) (omega (arith, c .before .digit-at .ensures)))
 
 digit-at-requires-2 : tie.Need-digit-at-requires-2 Inv-loop μ-loop
 digit-at-requires-2 c κs = search needs
@@ -72,14 +72,14 @@ loop-again c =
     let small : at .loop .value * 10 + at .loop .digit ≤ 65535 = omega (arith, c .before .if4 .left) in
     scanning-more _ _ _ _ _ (at .loop .inv) _ (c .before .before .loop-test .taken) small (c .digit-at3 .ensures)
 
-cast-t13 : tie.Need-cast-t13 Inv-loop μ-loop
-cast-t13 c = omega (arith, c .before .loop .inv .small)
+cast-t12 : tie.Need-cast-t12 Inv-loop μ-loop
+cast-t12 c = omega (arith, c .before .loop .inv .small)
 
 returns-5 : tie.Need-returns-5 Inv-loop μ-loop
 returns-5 c = sym (scanning-done _ _ _ _ _ (c .before .loop .inv) (c .loop-test .left))
 
-pub take-number-spec : {M : Type 1} → statement M
-take-number-spec =
+pub number-at-spec : {M : Type 1} → statement M
+number-at-spec =
     tie.close
     (tie.spec
     Inv-loop
@@ -98,5 +98,5 @@ take-number-spec =
     digit-at-requires-3
     loop-less
     loop-again
-    cast-t13
+    cast-t12
     returns-5)
