@@ -3,6 +3,7 @@ ghost use mathlib.Core.Path.{_≡_};
 ghost use Rattle.text.specs.Form.{skipAt, formAt};
 use crate::number::Cursor;
 use crate::number::Number;
+use crate::reader::byte_at;
 use crate::reader::take_number;
 
 // Where the text goes on, or that it departs from the form.
@@ -21,7 +22,7 @@ pub fn skip(text: &[u8], from: Cursor, bytes: &[u8]) -> Next
         if place >= text.len() {
             return Next::Departs;
         }
-        if text[place] != bytes[i] {
+        if byte_at(text, place) != bytes[i] {
             return Next::Departs;
         }
         place += 1;

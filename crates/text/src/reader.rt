@@ -1,4 +1,4 @@
-// The text and a position in it: numbers, and the bytes between those of a list, are read through this struct.
+// The text and a position in it: every number and every other byte is read through this struct.
 // The borrow checker covers no function that takes or makes a struct with a reference in it, so each of those here is
 // proved by a walk of its code by hand. Callers use `take_number` and `byte_at`, whose plain parameters spare them that.
 ghost use mathlib.Core.Path.{_≡_};
