@@ -1,4 +1,4 @@
-// Runs a session on the chain 0-1, 1-2, 2-3 with the requests 0 0 3 9, and prints what it leaves.
+// Runs sessions on the chain, at the limit of requests and without vertices, and prints what they leave.
 use libc::STDOUT_FILENO;
 use table::Checked;
 
@@ -31,7 +31,8 @@ fn print_answer(answer: Checked) {
     }
 }
 
-fn main() {
+// The chain 0-1, 1-2, 2-3 with the requests 0 0 3 9.
+fn chain() {
     let mut anchored = [0u8; 4];
     let mut levels = [0u16; 4];
     let mut layers = [0u16; 4];
@@ -65,4 +66,73 @@ fn main() {
     print_numbers(b"layers", &layers);
     print_numbers(b"components", &components);
     print_numbers(b"followers", &followers);
+}
+
+// One vertex, requested as often as the slices have places.
+fn many(requests: &[u16], status: &mut [u16], lifted: &mut [u16], redone: &mut [u16]) {
+    let mut anchored = [0u8; 1];
+    let mut levels = [0u16; 1];
+    let mut layers = [0u16; 1];
+    let mut components = [0u16; 1];
+    let mut followers = [0u16; 1];
+    let mut stamps = [7u16; 1];
+    let answer = session::run::run(
+        &[0, 0],
+        &[],
+        &[0],
+        requests,
+        &mut anchored,
+        &mut levels,
+        &mut layers,
+        &mut components,
+        &mut followers,
+        &mut stamps,
+        status,
+        lifted,
+        redone,
+    );
+    print_answer(answer);
+    print_numbers(b"stamps", &stamps);
+}
+
+// No vertices and one request.
+fn nobody() {
+    let mut status = [0u16; 1];
+    let mut lifted = [0u16; 1];
+    let mut redone = [0u16; 1];
+    let answer = session::run::run(
+        &[0],
+        &[],
+        &[],
+        &[0],
+        &mut [],
+        &mut [],
+        &mut [],
+        &mut [],
+        &mut [],
+        &mut [],
+        &mut status,
+        &mut lifted,
+        &mut redone,
+    );
+    print_answer(answer);
+    print_numbers(b"status", &status);
+}
+
+// As many requests as a session takes, and one more.
+fn limits() {
+    let mut status = [0u16; 4096];
+    let mut lifted = [0u16; 4096];
+    let mut redone = [0u16; 4096];
+    many(&[0u16; 4096], &mut status, &mut lifted, &mut redone);
+    let mut last = [0u16; 4097];
+    let mut above = [0u16; 4097];
+    let mut beyond = [0u16; 4097];
+    many(&[0u16; 4097], &mut last, &mut above, &mut beyond);
+}
+
+fn main() {
+    chain();
+    limits();
+    nobody();
 }
