@@ -1,22 +1,14 @@
 -- Laws of stores, and of runs of stores, `sets` of lib.Seq. Assumes nothing.
 use mathlib.Core.Path.{_≡_, refl, ap, _∙_}
 use mathlib.Core.List.{List, [], _∷_, _++_}
-use Prim.Native.Nat.{ℕ, zero, suc, _+_, _≤_}
+use Prim.Native.Nat.{ℕ, suc, _+_, _≤_}
 use native.Mathlib.Nat.{add-zero, add-suc, suc-add}
 use native.Mathlib.Numerals.{add-one}
 use native.Mathlib.Omega.{arith}
-use lib.ListN.{length, take, drop, getD, set}
+use lib.ListN.{length, take, drop, set}
 use lib.Seq.{sets, sets-eq, take-append-seam}
 use Rattle.finite.specs.Count.{tabulate}
 use Rattle.finite.proofs.Count.{length-tabulate}
-
--- a store that does not lower its own element lowers none
-pub set-raises : (l : List ℕ) (i x k : ℕ) → getD l i 0 ≤ x → getD l k 0 ≤ getD (set l i x) k 0
-set-raises [] i x k h = omega arith
-set-raises (w ∷ ws) zero x zero h = h
-set-raises (w ∷ ws) zero x (suc k) h = omega arith
-set-raises (w ∷ ws) (suc i) x zero h = omega arith
-set-raises (w ∷ ws) (suc i) x (suc k) h = set-raises ws i x k h
 
 -- two runs of stores, one behind the other, are one
 pub sets-append : (d : List ℕ) (a : ℕ) (xs ys : List ℕ) → sets (sets d a xs) (a + length xs) ys ≡ sets d a (xs ++ ys)

@@ -3,8 +3,5 @@ pub mod Arrays
 pub mod Peeling
 pub mod Steps
 pub mod Flooding
-pub mod Reaching
-pub mod Striking
-pub mod Remaining
 pub mod Answers
 pub mod Entries

@@ -4,7 +4,7 @@ use mathlib.Core.Bool.{Bool, cond, _&&_}
 use mathlib.Core.List.{List}
 use Prim.Native.Nat.{ℕ, _<_}
 use lib.ListN.{length, take, drop, getD}
-use lib.Dec.{leb, ltb, eqb}
+use lib.Dec.{ltb, eqb}
 use Rattle.finite.specs.Count.{bit, count, below}
 use Rattle.table.specs.Table.{vertices, refused}
 use Rattle.table.specs.declared.Checked.{Checked}
@@ -12,13 +12,9 @@ use Rattle.table.specs.declared.Checked.the-variants.{Sound, Refused}
 use Rattle.anchored.specs.Graph.{Graph}
 use Rattle.anchored.specs.Core.{level}
 use Rattle.anchored.specs.Component.{heads, componentSize}
-use Rattle.anchored.specs.Followers.{followers, reached}
 use Rattle.level.specs.Input.{graphOf, anchoredBy, admitOf}
-use Rattle.level.specs.SheetCheck.{sheetOf}
 use Rattle.level.specs.declared.listing.Listed.{Listed}
 use Rattle.level.specs.declared.listing.Listed.the-variants.{Count, Refused as ListRefused}
-use Rattle.level.specs.declared.followers.Searched.{Searched}
-use Rattle.level.specs.declared.followers.Searched.the-variants.{Found, Refused as SearchRefused}
 
 -- the rest, where nothing is refused first
 abbrev pub past : Checked → Checked → Checked
@@ -64,25 +60,3 @@ pub record Keeps (c : ℕ) (old new : List ℕ) : Type 0 where
 abbrev pub Holding : Graph → (ℕ → Bool) → Listed → List ℕ → List ℕ → List ℕ → List ℕ → List ℕ → List ℕ → Type 0
 Holding G A (Count c) lev₀ sizes₀ numbers₀ lev sizes numbers = Lists G A c lev sizes numbers × Keeps c lev₀ lev × Keeps c sizes₀ sizes × Keeps c numbers₀ numbers
 Holding G A (ListRefused r) lev₀ sizes₀ numbers₀ lev sizes numbers = (lev ≡ lev₀) × (sizes ≡ sizes₀) × (numbers ≡ numbers₀)
-
--- ---- the follower search (local search)
-
--- 13 and 14, then 15 for x of n or more, 16 for an anchored x; the place of both is x
-unfoldable pub startOf : List ℕ → List ℕ → List ℕ → List ℕ → List ℕ → ℕ → Checked
-startOf s l a lev lay x = past (sheetOf s l a lev lay) (cond (leb (vertices s) x) (refused 15 x) (cond (anchoredBy a x) (refused 16 x) Sound))
-
--- 1 to 10, then 12 for m places for marks where m is not n, then 13 to 16
-unfoldable pub searchOf : List ℕ → List ℕ → List ℕ → List ℕ → List ℕ → ℕ → ℕ → Checked
-searchOf s l a lev lay x m = past (admitOf s l a) (cond (eqb m (vertices s)) (startOf s l a lev lay x) (refused 12 0))
-
--- the answer: a refusal, or x's follower count (yield) and its reached count
-unfoldable pub followersOf : List ℕ → List ℕ → List ℕ → List ℕ → List ℕ → ℕ → ℕ → Searched
-followersOf s l a lev lay x m = elim (searchOf s l a lev lay x m) [
-  | Sound ↦ Found (followers (graphOf s l) (anchoredBy a) x) (reached (graphOf s l) (anchoredBy a) x)
-  | Refused r ↦ SearchRefused r
-]
-
--- what the marks hold after an answer
-abbrev pub marked : Searched → List ℕ → List ℕ → List ℕ
-marked (Found f c) new old = new
-marked (SearchRefused r) new old = old

@@ -3,6 +3,5 @@ pub mod Arrays
 pub mod SheetCheck
 pub mod Peeling
 pub mod Flooding
-pub mod Searching
 pub mod Answers
 pub mod Entries

@@ -7,5 +7,3 @@ pub mod flood; // components
 pub mod lent; // the lent slices
 pub mod work; // the level sheet with components
 pub mod listing; // the list of components
-pub mod search; // the follower search on the defined sheet
-pub mod followers; // the follower search as an operation

@@ -1,8 +1,8 @@
 // Works the pools C to H of document 01, and a star whose hub is anchored, lists their components, searches from every vertex, and
 // checks the sheet and every sheet with one entry off by one. Then a refusal of each kind that comes after the table's.
-use level::followers::Searched;
 use level::listing::Listed;
 use libc::STDOUT_FILENO;
+use search::Searched;
 use table::Checked;
 ghost use Prim.Native.Nat.{_≤_};
 ghost use lib.ListN.{length};
@@ -91,15 +91,7 @@ fn search(
     print(name);
     print(b" from");
     print_number(x);
-    let answer = level::followers::followers(
-        starts,
-        links,
-        anchored,
-        levels,
-        layers,
-        x,
-        &mut marks,
-    );
+    let answer = search::followers(starts, links, anchored, levels, layers, x, &mut marks);
     print_marks(&marks);
     match answer {
         Searched::Found(lifted, reached) => {
@@ -255,7 +247,7 @@ fn search_chain(
     marks: &mut [u8],
 ) {
     print(name);
-    let answer = level::followers::followers(
+    let answer = search::followers(
         &[0, 1, 3, 5, 6],
         &[1, 0, 2, 1, 3, 2],
         anchored,

@@ -3,8 +3,8 @@ use Prim.Native.Nat.{ℕ}
 use Rattle.planner_c.specs.declared.numbers.Answer.{Answer}
 use Rattle.table.specs.declared.Checked.{Checked}
 use Rattle.table.specs.declared.Checked.the-variants.{Sound, Refused}
-use Rattle.level.specs.declared.followers.Searched.{Searched}
-use Rattle.level.specs.declared.followers.Searched.the-variants.{Found, Refused as SearchRefused}
+use Rattle.search.specs.declared.operation.Searched.{Searched}
+use Rattle.search.specs.declared.operation.Searched.the-variants.{Found, Refused as SearchRefused}
 use Rattle.level.specs.declared.listing.Listed.{Listed}
 use Rattle.level.specs.declared.listing.Listed.the-variants.{Count, Refused as ListRefused}
 use Rattle.answer.specs.declared.call.Answered.{Answered}

@@ -8,7 +8,8 @@ ghost use Rattle.anchored.specs.Component.{component};
 ghost use Rattle.anchored.specs.Followers.{mark};
 ghost use Rattle.level.specs.Input.{graphOf, anchoredBy};
 ghost use Rattle.level.specs.SheetCheck.{checkSheetOf};
-ghost use Rattle.level.specs.Answers.{workOf, written, listOf, Holding, followersOf, marked};
+ghost use Rattle.level.specs.Answers.{workOf, written, listOf, Holding};
+ghost use Rattle.search.specs.Answers.{followersOf, marked};
 ghost use Rattle.planner_c.specs.Answers.{checkedAs, listedAs, searchedAs};
 use super::numbers::Answer;
 
@@ -84,7 +85,7 @@ pub extern "C" fn planner_followers(
     ensures answer { λ r. ⌜ r ≡ searchedAs (followersOf (now (starts .entry)) (now (links .entry)) (now (anchored .entry)) (now (levels .entry)) (now (layers .entry)) x (length (now (marks .entry)))) ⌝ }
     ensures marks { λ r. ⌜ now (marks .exit) ≡ marked (followersOf (now (starts .entry)) (now (links .entry)) (now (anchored .entry)) (now (levels .entry)) (now (layers .entry)) x (length (now (marks .entry)))) (tabulate (mark (graphOf (now (starts .entry)) (now (links .entry))) (anchoredBy (now (anchored .entry))) x) (vertices (now (starts .entry)))) (now (marks .entry)) ⌝ }
 {
-    super::numbers::of_searched(level::followers::followers(
+    super::numbers::of_searched(search::followers(
         starts,
         links,
         anchored,

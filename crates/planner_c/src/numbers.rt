@@ -46,18 +46,18 @@ pub fn of_listed(listed: level::listing::Listed) -> Answer
     }
 }
 
-pub fn of_searched(searched: level::followers::Searched) -> Answer
+pub fn of_searched(searched: search::Searched) -> Answer
     ensures { λ r. ⌜ r ≡ searchedAs searched ⌝ }
 {
     match searched {
-        level::followers::Searched::Found(lifted, reached) => {
+        search::Searched::Found(lifted, reached) => {
             Answer {
                 number: 0,
                 first: lifted as u64,
                 second: reached as u64,
             }
         }
-        level::followers::Searched::Refused(refusal) => {
+        search::Searched::Refused(refusal) => {
             Answer {
                 number: refusal.number as u64,
                 first: refusal.place as u64,

@@ -48,7 +48,7 @@ pub fn play(
     }
     let level = old.level;
     let layer = old.layer;
-    level::search::search(starts, links, &anchored, &level, &layer, x, &mut marks);
+    search::search(starts, links, &anchored, &level, &layer, x, &mut marks);
     let stepped = session::step::step(starts, links, old, x, round);
     let row = stepped.row;
     let end = sheet::line::put_line(

@@ -21,8 +21,7 @@ pub fn refresh(
     requires { ⌜ Admitted (now starts) (now links) (now anchored) ⌝ }
     ensures { λ _. ⌜ Sheet (now (starts .entry)) (now (links .entry)) (now (anchored .entry)) (now (level .exit)) (now (layer .exit)) (now (component .exit)) ⌝ }
 {
-    level::peel::peel(starts, links, anchored, level, layer);
-    level::flood::flood(starts, links, anchored, &level[..], component);
+    level::work::fill(starts, links, anchored, level, layer, component);
 }
 
 // The follower count of u, by the search from u; 65,535 for an anchored vertex.
@@ -44,6 +43,6 @@ pub fn count_followers(
         return 65535;
     }
     let mut marks = [0u8; 1024];
-    let found = level::search::search(starts, links, anchored, level, layer, u, &mut marks);
+    let found = search::search(starts, links, anchored, level, layer, u, &mut marks);
     found.lifted as u16
 }

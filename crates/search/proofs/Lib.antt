@@ -1,0 +1,4 @@
+pub mod Reaching
+pub mod Striking
+pub mod Remaining
+pub mod Answers

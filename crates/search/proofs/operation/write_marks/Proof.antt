@@ -1,0 +1,36 @@
+-- `operation::write_marks` meets its contract: the slice gets a copy of the first n marks. Assumes nothing.
+use mathlib.Core.Path.{ap₂}
+use native.Mathlib.Omega.{arith}
+use Rattle.search.specs.declared.operation.Searched.the-variants.{Found}
+use Rattle.level.proofs.Arrays.{copied}
+use Rattle.search.proofs.operation.write_marks.Statement.{statement}
+use Rattle.search.proofs.operation.write_marks.Tie as tie
+
+abbrev entry : tie.After-search → tie.Start
+entry c = c .before .before .before .before .before .before .before .before
+
+abbrev searched : tie.After-slice-known2 → tie.After-search
+searched c = c .before .before .before .before .before
+
+search-requires : tie.Need-search-requires
+search-requires c κs =
+    let pre = c .before .before .before .before .before .before .before .pre in
+    let sheet = pre .1 .0 in
+    (pre .0, (omega (arith, sheet .levels-long), (omega (arith, sheet .layers-long), (sheet .levels-hold, (sheet .layers-hold, (pre .1 .1 .0 .0, pre .1 .1 .0 .1))))))
+
+copy-bytes-requires : tie.Need-copy-bytes-requires
+copy-bytes-requires c κs =
+    let pre = entry (c .before .before) .pre in
+    omega (arith, pre .0 .table .small, pre .1 .1 .1)
+
+same-length : tie.Need-same-length
+same-length c = c .before .before .copy-bytes .kept .1 .0
+
+returns : tie.Need-returns
+returns c =
+    let found = searched c in
+    let counts = found .search .ensures in
+    (ap₂ Found (counts .1 .0) (counts .1 .1), copied _ (found .search .last .1 .1 .1 .1 .1 .1 .0) (entry found .pre .1 .1 .1) (counts .0) (c .before .before .copy-bytes .ensures))
+
+pub write-marks-spec : {M : Type 1} → statement M
+write-marks-spec = tie.close (tie.spec search-requires copy-bytes-requires same-length returns)
