@@ -1,10 +1,9 @@
 -- One more anchor: nobody falls, and nobody but x rises by more than one level. Assumes nothing.
 use Prim.Native.Nat.{ℕ, zero, suc, _≤_, _<_, zero-le}
 use mathlib.Core.Path.{_≡_, sym, subst}
-use mathlib.Core.Bool.{Bool, not, _&&_, _||_}
+use mathlib.Core.Bool.{Bool, not, _&&_}
 use lib.Dec.{T, eqb, T-not, not-T, eqb→eq, eqb-refl}
 use native.Mathlib.Omega.{arith}
-use Rattle.finite.specs.Count.{count}
 use Rattle.finite.specs.Sets.{has}
 use Rattle.finite.proofs.Tests.{and-i, and-l, and-r, or-l, or-r, or-e}
 use Rattle.finite.proofs.Count.{count-off}

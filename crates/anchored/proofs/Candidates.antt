@@ -1,29 +1,27 @@
 -- Candidates: the ends of upstair walks; every follower is one (theorem 4.14 of source document 000). Assumes nothing.
-use Prim.Native.Nat.{ℕ, zero, suc, _+_, _-_, _≤_, _<_, zero-le}
+use Prim.Native.Nat.{ℕ, zero, suc, _-_, _≤_, _<_}
 use mathlib.Core.Path.{_≡_, refl, sym, ap, subst}
-use mathlib.Core.Bool.{Bool, not, _&&_, _||_}
+use mathlib.Core.Bool.{Bool, not, _&&_}
 use mathlib.Core.List.{List}
-use lib.ListN.{length}
 use lib.Dec.{T, eqb, ltb, leb→le, le→leb, T-not, not-T, eqb→eq, eqb-refl}
 use native.Mathlib.Omega.{arith}
-use native.Mathlib.Nat.{add-zero, add-suc}
-use Rattle.finite.specs.Count.{count, In}
-use Rattle.finite.specs.Search.{any, member}
+use Rattle.finite.specs.Count.{In}
+use Rattle.finite.specs.Search.{member}
 use Rattle.finite.specs.Sets.{has, having, rounds, grow}
 use Rattle.finite.specs.Pairs.{pairLe}
 use Rattle.finite.proofs.Tests.{and-i, and-l, and-r, or-l, or-r, or-e, split, same, eqb-of}
 use Rattle.finite.proofs.Count.{count-witness}
-use Rattle.finite.proofs.Search.{any-i, any-e, member-i, member-e}
-use Rattle.finite.proofs.Sets.{rounds-suc, length-rounds, having-i, having-e, having-lt, length-having, length-grow, grow-i, grow-e, grow-keeps, grow-rest}
+use Rattle.finite.proofs.Search.{any-i, any-e, member-i}
+use Rattle.finite.proofs.Sets.{rounds-suc, having-i, having-e, having-lt, length-having, grow-i, grow-e, grow-keeps, grow-rest}
 use Rattle.finite.proofs.Pairs.{strong, pair-no, pair-e, pair-lt, pair-eq}
 use Rattle.anchored.specs.Graph.{Graph, Simple}
 use Rattle.anchored.specs.Core.{core, level, layer, greater}
 use Rattle.anchored.specs.Component.{Joined, stay, hop}
 use Rattle.anchored.specs.Sheet.{atLeast}
 use Rattle.anchored.specs.Followers.{adding, follows, firstStep, onward, candidates}
-use Rattle.anchored.proofs.Core.{core-solid, level-max, in-core, layer-le}
+use Rattle.anchored.proofs.Core.{core-solid, level-max, in-core}
 use Rattle.anchored.proofs.Sheet.{defined-local}
-use Rattle.anchored.proofs.Anchor.{free-of, other-of, free-adding, level-by-one}
+use Rattle.anchored.proofs.Anchor.{free-of, free-adding, level-by-one}
 
 -- an upstair walk from x to v: its first step to a neighbor, not anchored, of greater pair, each further one to a neighbor of
 -- the same level and greater layer

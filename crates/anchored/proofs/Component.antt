@@ -1,21 +1,21 @@
 -- Components: two vertices have one component number exactly when they are joined, and any labelling with the three properties
 -- of `component-unique` is the numbering. Assumes nothing.
-use Prim.Native.Nat.{ℕ, zero, suc, _+_, _≤_, _<_, zero-le}
+use Prim.Native.Nat.{ℕ, zero, suc, _≤_, _<_}
 use mathlib.Core.Path.{_≡_, refl, sym, ap, _∙_, subst}
 use mathlib.Core.Logic.{_↔_}
-use mathlib.Core.Bool.{Bool, true, false, not, _&&_, _||_}
+use mathlib.Core.Bool.{Bool, not, _&&_}
 use mathlib.Core.List.{List}
 use lib.Dec.{T, eqb, eqb→eq, eqb-refl}
 use native.Mathlib.Omega.{arith}
 use Rattle.finite.specs.Count.{In}
-use Rattle.finite.specs.Search.{any, first}
+use Rattle.finite.specs.Search.{first}
 use Rattle.finite.specs.Sets.{has, having, rounds, grow}
-use Rattle.finite.proofs.Tests.{and-i, and-l, and-r, or-r, or-e, true-of, false-of, eqb-of}
+use Rattle.finite.proofs.Tests.{and-i, and-l, and-r, or-r, or-e, false-of}
 use Rattle.finite.proofs.Search.{any-i, any-e, first-holds, first-least}
 use Rattle.finite.proofs.Sets.{rounds-suc, having-i, having-e, length-having, grow-i, grow-e, grow-keeps, grow-rest}
 use Rattle.anchored.specs.Graph.{Graph, Simple}
 use Rattle.anchored.specs.Core.{level}
-use Rattle.anchored.specs.Component.{Joined, stay, hop, joins, around, component, together}
+use Rattle.anchored.specs.Component.{Joined, stay, hop, joins, around, component}
 
 module _ (G : Graph) (L : Simple G) (A : ℕ → Bool) where
   abbrev lev : ℕ → ℕ

@@ -1,20 +1,20 @@
 -- Cores, levels and layers: the core is the largest solid set, and what that says of levels and layers. Assumes nothing.
 use Prim.Native.Nat.{ℕ, zero, suc, _+_, _-_, _≤_, _<_, zero-le}
-use mathlib.Core.Path.{_≡_, refl, sym, ap, _∙_, subst}
+use mathlib.Core.Path.{_≡_, refl, sym, _∙_, subst}
 use mathlib.Core.Logic.{_↔_}
-use mathlib.Core.Bool.{Bool, true, false, not, _&&_, _||_, cond}
-use mathlib.Core.List.{List, [], _∷_}
+use mathlib.Core.Bool.{Bool, true, not, _&&_, _||_}
+use mathlib.Core.List.{List}
 use lib.ListN.{length, replicate, length-replicate}
 use lib.Dec.{T, leb, leb→le, le→leb, nleb→lt, T-not, not-T}
 use native.Mathlib.Omega.{arith}
 use native.Mathlib.Nat.{zero-add, add-zero, add-suc, le-trans}
-use Rattle.finite.specs.Count.{count, In}
+use Rattle.finite.specs.Count.{count}
 use Rattle.finite.specs.Search.{first, largest}
-use Rattle.finite.specs.Sets.{has, keep, size, rounds}
-use Rattle.finite.proofs.Tests.{and-i, and-l, and-r, or-l, or-r, or-e, split, same, true-of, false-of, not-not}
+use Rattle.finite.specs.Sets.{has, size, rounds}
+use Rattle.finite.proofs.Tests.{and-i, and-l, and-r, or-l, or-r, or-e, split, true-of, false-of, not-not}
 use Rattle.finite.proofs.Count.{count-mono, count-length, distinct-other}
 use Rattle.finite.proofs.Search.{largest-holds, largest-max, first-le, first-before, first-ends}
-use Rattle.finite.proofs.Sets.{has-all, has-lt, sets-ext, has-keep, length-keep, keep-same, size-length, rounds-suc, shrink-rest}
+use Rattle.finite.proofs.Sets.{has-all, has-lt, has-keep, length-keep, keep-same, size-length, rounds-suc, shrink-rest}
 use Rattle.anchored.specs.Graph.{Graph, Simple}
 use Rattle.anchored.specs.Core.{Solid, batch, core, level, shell, layer}
 -- the computed cases come before the theorems, so that a wrong definition is refused at a figure

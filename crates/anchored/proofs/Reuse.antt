@@ -1,7 +1,7 @@
 -- Two pools side by side, (G, A) and (H, B), with a set S that is a component of one level in both: what a vertex u outside the
 -- change sees of S is the same, its followers, the layers, its candidates. So a row that sees no change keeps both counts. Assumes nothing.
-use Prim.Native.Nat.{ℕ, zero, suc, _+_, _-_, _≤_, _<_}
-use mathlib.Core.Path.{_≡_, refl, sym, ap, _∙_, subst}
+use Prim.Native.Nat.{ℕ, suc, _+_, _-_, _≤_, _<_}
+use mathlib.Core.Path.{_≡_, refl, sym, _∙_, subst}
 use mathlib.Core.Logic.{_↔_}
 use mathlib.Core.Bool.{Bool, not, _&&_, _||_}
 use lib.Dec.{T, leb, ltb, eqb, leb→le, le→leb, nleb→lt, T-not, not-T, eqb→eq}
@@ -22,7 +22,7 @@ use Rattle.anchored.specs.Followers.{adding, follows, followers, firstSt
 use Rattle.anchored.specs.Sheet.{atLeast}
 use Rattle.anchored.proofs.Core.{core-solid, core-largest, core-anchored, level-max, in-core, layer-positive}
 use Rattle.anchored.proofs.Sheet.{defined-local}
-use Rattle.anchored.proofs.Anchor.{free-of, other-of, free-adding, core-adding, core-less}
+use Rattle.anchored.proofs.Anchor.{other-of, free-adding, core-adding, core-less}
 use Rattle.anchored.proofs.Candidates.{Walk, start, step, walk-free, walk-candidate, candidate-walk, follower-walk, walk-enters}
 
 -- S is a component of level k in both pools, with the same edges inside, and each member has as many neighbors above it in one as in the other

@@ -1,15 +1,13 @@
 -- The local sheet: a sheet passes the local test at every vertex exactly when it is the defined one; (a) alone overstates
 -- nobody, (b) alone understates nobody. Assumes nothing.
-use Prim.Native.Nat.{ℕ, zero, suc, _+_, _-_, _≤_, _<_, zero-le}
-use mathlib.Core.Path.{_≡_, refl, sym, ap, _∙_, subst}
+use Prim.Native.Nat.{ℕ, zero, suc, _-_, _≤_, _<_}
+use mathlib.Core.Path.{_≡_, refl, sym, _∙_, subst}
 use mathlib.Core.Logic.{_↔_}
-use mathlib.Core.Bool.{Bool, true, false, not, _&&_, _||_, cond}
-use mathlib.Core.List.{List}
+use mathlib.Core.Bool.{Bool, not, _&&_, _||_}
 use lib.Dec.{T, leb, ltb, eqb, leb→le, le→leb, nleb→lt, T-not, not-T, eqb→eq}
 use native.Mathlib.Omega.{arith}
 use native.Mathlib.Nat.{le-trans}
-use Rattle.finite.specs.Count.{count, below, In}
-use Rattle.finite.specs.Search.{all}
+use Rattle.finite.specs.Count.{count}
 use Rattle.finite.specs.Sets.{has, rounds}
 use Rattle.finite.specs.Pairs.{pairLe}
 use Rattle.finite.proofs.Tests.{and-i, and-l, and-r, or-l, or-r, or-e, split, true-of, false-of, same, not-or, or-not, nand, nand-i, not-not, eqb-of, neqb}
@@ -17,7 +15,7 @@ use Rattle.finite.proofs.Count.{count-mono, count-cong}
 use Rattle.finite.proofs.Search.{all-below-e, all-below-i}
 use Rattle.finite.proofs.Pairs.{pair-ind, pair-lt, pair-eq, pair-e, pair-no, pair-zero-i, pair-zero-e}
 use Rattle.anchored.specs.Graph.{Graph, Simple}
-use Rattle.anchored.specs.Core.{Solid, batch, core, level, shell, layer}
+use Rattle.anchored.specs.Core.{Solid, core, level, shell, layer}
 use Rattle.anchored.specs.Sheet.{atLeast, isDefined, support, misplaced, tooHigh, tooLow, tooLate, fits, isLocal}
 use Rattle.anchored.proofs.Core.{batch-in, batch-sub, batch-full, core-lt, core-solid, core-largest, core-anchored, level-in, level-max, in-core, shell-suc, shell-core, core-shell, layer-out, layer-in, shell-layer, level-anchored, layer-anchored, layer-positive}
 

@@ -1,12 +1,12 @@
 -- A step from the anchors A to A and x: an undisturbed component is alike before and after, so a row that is not recomputed keeps
 -- its followers and its candidates. Assumes nothing.
-use Prim.Native.Nat.{ℕ, suc, _≤_, _<_}
+use Prim.Native.Nat.{ℕ, suc, _<_}
 use mathlib.Core.Path.{_≡_, refl, sym, _∙_, subst}
-use mathlib.Core.Bool.{Bool, true, false, not, _&&_, _||_, Bool·beq}
-use lib.Dec.{T, leb, ltb, eqb, leb→le, le→leb, T-not, not-T, eqb→eq}
+use mathlib.Core.Bool.{Bool, not, _&&_, _||_, Bool·beq}
+use lib.Dec.{T, eqb, leb→le, le→leb, T-not, not-T, eqb→eq}
 use native.Mathlib.Omega.{arith}
 use native.Mathlib.Nat.{le-trans}
-use Rattle.finite.specs.Count.{count, below, In}
+use Rattle.finite.specs.Count.{In}
 use Rattle.finite.specs.Search.{member}
 use Rattle.finite.proofs.Tests.{and-i, and-l, and-r, or-l, or-r, or-e, split, eqb-of, beq-e}
 use Rattle.finite.proofs.Count.{count-same}
@@ -14,7 +14,7 @@ use Rattle.finite.proofs.Search.{any-i, all-below-e, member-e}
 use Rattle.anchored.specs.Graph.{Graph, Simple}
 use Rattle.anchored.specs.Core.{level, greater, higher}
 use Rattle.anchored.specs.Component.{Joined, stay, hop, component, together}
-use Rattle.anchored.specs.Followers.{adding, follows, followers, firstStep, candidates, reached}
+use Rattle.anchored.specs.Followers.{adding, follows, followers, firstStep, reached}
 use Rattle.anchored.specs.Step.{above, undisturbed, seesDisturbed, seesNew, recomputed}
 use Rattle.anchored.proofs.Component.{joined-level, joined-lt, joined-free, component-iff}
 use Rattle.anchored.proofs.Anchor.{free-of, level-rises}

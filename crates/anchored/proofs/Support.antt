@@ -2,7 +2,7 @@
 use Prim.Native.Nat.{ℕ, suc, _≤_, _<_}
 use mathlib.Core.Path.{_≡_, _∙_}
 use mathlib.Core.Bool.{Bool, not, _&&_, _||_}
-use lib.Dec.{T, ltb, eqb, leb→le, le→leb, nleb→lt, T-not, not-T, eqb→eq}
+use lib.Dec.{T, ltb, eqb, leb→le, le→leb, nleb→lt, not-T, eqb→eq}
 use native.Mathlib.Omega.{arith}
 use native.Mathlib.Nat.{le-trans}
 use Rattle.finite.specs.Count.{count}

@@ -1,11 +1,10 @@
 -- One sweep of batches, the threshold rising when none goes, gives every level and layer: what a program that peels needs. Assumes nothing.
 use Prim.Native.Nat.{ℕ, suc, _≤_, _<_}
 use mathlib.Core.Path.{_≡_, sym, _∙_, subst}
-use mathlib.Core.Bool.{Bool, true, not, _||_}
+use mathlib.Core.Bool.{Bool, true, not}
 use lib.ListN.{length, replicate, length-replicate}
 use lib.Dec.{T, leb, leb→le, nleb→lt, T-not}
 use native.Mathlib.Omega.{arith}
-use Rattle.finite.specs.Count.{count}
 use Rattle.finite.specs.Sets.{has}
 use Rattle.finite.proofs.Tests.{split, same}
 use Rattle.finite.proofs.Sets.{has-all, sets-ext}

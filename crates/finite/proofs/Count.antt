@@ -1,5 +1,5 @@
 -- Laws of tables, membership and counts. Assumes nothing.
-use mathlib.Core.Path.{_≡_, refl, sym, ap, ap₂, _∙_, subst}
+use mathlib.Core.Path.{_≡_, refl, sym, ap, _∙_, subst}
 use mathlib.Core.Logic.{_↔_, _⊎_, inl, inr, ⊎-elim}
 use mathlib.Core.Bool.{Bool, true, false, not, _&&_, _||_, cond}
 use mathlib.Core.List.{List, [], _∷_, _++_, flatten, append-assoc, append-nil}
@@ -11,7 +11,7 @@ use lib.ListN.{length, take, drop, getD, set, replicate, length-append, length-r
 use lib.Seq.{take-suc, take-all, length-take-le, getD-take, set-at, drop-cons, drop-length, getD-at, ext-getD, getD-drop, getD-append-add, getD-set-same, getD-set-other}
 use lib.Dec.{T, leb, eqb, leb→le, nleb→lt, T-not, not-T, eqb→eq, eqb-refl, ltb, ltb→lt, nltb→le}
 use Rattle.finite.specs.Count.{bit, tabulate, below, count, In, Distinct}
-use Rattle.finite.proofs.Tests.{and-i, and-l, and-r, split, eqb-of, neqb, of-true, true-of, false-of}
+use Rattle.finite.proofs.Tests.{and-i, and-l, and-r, split, neqb, true-of, false-of}
 
 -- ---- bit
 

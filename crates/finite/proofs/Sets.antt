@@ -1,17 +1,16 @@
 -- Laws of sets as lists of Bool, and of steps repeated until they rest. Assumes nothing.
-use mathlib.Core.Path.{_≡_, refl, sym, ap, ap₂, _∙_, subst}
-use mathlib.Core.Bool.{Bool, true, false, not, _&&_, _||_}
+use mathlib.Core.Path.{_≡_, refl, sym, ap, _∙_, subst}
+use mathlib.Core.Bool.{Bool, true, false, _&&_, _||_}
 use mathlib.Core.List.{List, [], _∷_}
 use Prim.Native.Nat.{ℕ, zero, suc, _+_, _≤_, _<_, zero-le, suc-le-suc}
 use native.Mathlib.Nat.{add-zero, add-suc, suc-add, zero-add}
 use native.Mathlib.Omega.{arith}
-use lib.ListN.{length, getD, replicate, getD-replicate, length-replicate}
+use lib.ListN.{length, replicate, getD-replicate, length-replicate}
 use lib.Seq.{ext-getD}
 use lib.Dec.{T, leb, leb→le, nleb→lt}
-use Rattle.finite.specs.Count.{bit}
 use Rattle.finite.specs.Sets.{has, keep, having, size, rounds, grow}
-use Rattle.finite.proofs.Tests.{and-i, and-l, and-r, or-l, or-r, split, false-of}
-use Rattle.finite.proofs.Count.{bit-le, bit-mono, bit-yes, bit-no}
+use Rattle.finite.proofs.Tests.{and-i, and-l, and-r, or-l, split}
+use Rattle.finite.proofs.Count.{bit-le, bit-mono}
 
 -- ---- has
 

@@ -9,7 +9,7 @@ use native.Mathlib.Numerals.{add-one}
 use native.Mathlib.Omega.{arith}
 use lib.ListN.{length, take, drop, getD, set, length-set}
 use lib.Seq.{getD-set-same, getD-set-other, getD-take, length-take-le, take-suc-set, drop-set-lt, drop-drop}
-use lib.Dec.{T, leb, ltb, eqb, leb→le, le→leb, not-T, eqb→eq, eqb-refl}
+use lib.Dec.{T, ltb, eqb, leb→le, le→leb, not-T, eqb→eq, eqb-refl}
 use borrow.Author.Tests.{le-ltb}
 use Rattle.finite.specs.Count.{bit, count, below, In}
 use Rattle.finite.proofs.Tests.{and-i, and-l, and-r, split, same, true-of, false-of, of-true, eqb-of, neqb}

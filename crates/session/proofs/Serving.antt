@@ -18,8 +18,8 @@ use Rattle.table.proofs.Laws.{went-on}
 use Rattle.anchored.specs.Core.{level, layer}
 use Rattle.anchored.specs.Component.{component}
 use Rattle.anchored.specs.Followers.{followerCount}
-use Rattle.anchored.specs.Session.{Plain, Row, after, turn, rowOf}
-use Rattle.level.specs.Input.{graphOf, anchoredBy, admitOf}
+use Rattle.anchored.specs.Session.{Plain, after, turn, rowOf}
+use Rattle.level.specs.Input.{graphOf, admitOf}
 use Rattle.level.specs.Arrays.{Holds}
 use Rattle.level.specs.Answers.{threeOf}
 use Rattle.level.proofs.Laws.{went-through, admitted}

@@ -1,15 +1,12 @@
 -- The record that a session keeps, in arrays or slices, and the plain session that it stands for.
-use mathlib.Core.Path.{_≡_}
-use mathlib.Core.Bool.{Bool}
 use mathlib.Core.List.{List}
 use Prim.Native.Nat.{ℕ, _≤_}
 use lib.ListN.{length, getD}
-use Rattle.finite.specs.Count.{count, below}
 use Rattle.table.specs.Table.{vertices}
 use Rattle.anchored.specs.Core.{level, layer}
 use Rattle.anchored.specs.Component.{component}
-use Rattle.anchored.specs.Followers.{adding, followerCount}
-use Rattle.anchored.specs.Session.{Plain, Row, turn, rowOf}
+use Rattle.anchored.specs.Followers.{followerCount}
+use Rattle.anchored.specs.Session.{Plain, Row}
 use Rattle.level.specs.Input.{graphOf, anchoredBy, Admitted}
 use Rattle.level.specs.Arrays.{Holds}
 

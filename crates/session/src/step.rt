@@ -1,10 +1,10 @@
 // One step of a session: exactly one turn of the plain session.
 ghost use mathlib.Core.Path.{_≡_};
 ghost use Prim.Native.Nat.{_≤_, _<_};
-ghost use lib.ListN.{length, getD, set};
+ghost use lib.ListN.{length, getD};
 ghost use Rattle.table.specs.Table.{vertices};
 ghost use Rattle.anchored.specs.Session.{turn, rowOf};
-ghost use Rattle.level.specs.Input.{graphOf, Admitted};
+ghost use Rattle.level.specs.Input.{graphOf};
 ghost use Rattle.session.specs.Record.{Sheet as SheetOf, Right, plainOf, rowAs};
 ghost use Rattle.session.specs.Change.{MarksChanged};
 ghost use Rattle.session.specs.Rows.{Redone, Stands};

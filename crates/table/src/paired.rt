@@ -1,8 +1,8 @@
 // Whether a table is sound, in one pass: each link to a lower vertex is paired with the next link of that vertex, which must lead back.
 ghost use mathlib.Core.Path.{_≡_};
 ghost use mathlib.Core.Bool.{true};
-ghost use Prim.Native.Nat.{ℕ, _+_, _≤_, _<_};
-ghost use lib.ListN.{length, getD};
+ghost use Prim.Native.Nat.{_+_, _≤_, _<_};
+ghost use lib.ListN.{length};
 ghost use Rattle.table.specs.Table.{vertices, Framed, SoundTable};
 ghost use Rattle.table.specs.Paired.{Paired, Spent};
 

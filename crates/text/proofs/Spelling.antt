@@ -1,7 +1,7 @@
 -- What is read of the text is what the text spells there, and what it spells is read. Assumes nothing.
 use mathlib.Core.Path.{_≡_, refl, sym, ap, _∙_}
 use mathlib.Core.Logic.{inl, inr, ⊎-elim}
-use mathlib.Core.Bool.{Bool, true, false, not, cond, _&&_}
+use mathlib.Core.Bool.{Bool, true, false, cond, _&&_}
 use mathlib.Core.List.{List, [], _∷_, _++_, append-assoc, append-nil}
 use Prim.Native.Nat.{ℕ, zero, suc, _+_, _*_, _-_, _/_, _%_, _≤_, _<_}
 use native.Mathlib.Nat.{add-zero, zero-add}
@@ -11,7 +11,7 @@ use lib.ListN.{length, getD, drop}
 use lib.Seq.{drop-cons, drop-drop, drop-append-seam, getD-drop, append-snoc}
 use lib.Dec.{ltb, leb, eqb}
 use borrow.Author.Tests.{ltb-true, ltb-false, eqb-true, eqb-false, not-true, lt-ltb, le-ltb, le-leb, eq-eqb, ne-eqb}
-use Rattle.finite.specs.Bytes.{digit, decimal}
+use Rattle.finite.specs.Bytes.{decimal}
 use Rattle.finite.specs.Count.{In}
 use Rattle.finite.proofs.Bytes.{decimal-one, decimal-more}
 use Rattle.text.specs.Number.{cursor, digitOf, digits, value, unpadded, numberOf, numberAt}
