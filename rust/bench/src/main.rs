@@ -1,6 +1,7 @@
 //! The proved operations against plain Rust on the same pools, in one run: times as ratios, medians over seeds. Prints a table, and
 //! writes it with a plot to target/bench/.
 
+mod clock;
 mod measures;
 mod report;
 

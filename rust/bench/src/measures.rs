@@ -1,10 +1,10 @@
 //! What is measured. Both sides of a line run on the same pool, one after the other.
 
+use crate::clock;
 use planner::{Input, Record};
 use pools::{Pool, Random};
 use reference::quick::{self, Cores};
 use std::hint::black_box;
-use std::time::Instant;
 
 /// One comparison: what was measured against what, in microseconds for each seed.
 pub struct Line {
@@ -24,18 +24,19 @@ pub fn median(mut times: Vec<f64>) -> f64 {
     times[times.len() / 2]
 }
 
+/// What a call takes of the processor, in microseconds: time that other programs take does not count.
 fn time(call: &mut dyn FnMut()) -> f64 {
-    let start = Instant::now();
+    let start = clock::thread();
     call();
-    start.elapsed().as_secs_f64() * 1e6
+    (clock::thread() - start) * 1e6
 }
 
-/// The least time of each call, in microseconds; the calls take turns.
-fn times<const N: usize>(repeats: usize, mut calls: [&mut dyn FnMut(); N]) -> [f64; N] {
+/// The time of each call on average over a row of them, the least of several rows; the calls take turns row by row.
+fn times<const N: usize>(rows: usize, row: usize, mut calls: [&mut dyn FnMut(); N]) -> [f64; N] {
     let mut least = [f64::MAX; N];
-    for _ in 0..repeats {
+    for _ in 0..rows {
         for (i, call) in calls.iter_mut().enumerate() {
-            least[i] = least[i].min(time(call));
+            least[i] = least[i].min(time(&mut || (0..row).for_each(|_| call())) / row as f64);
         }
     }
     least
@@ -82,7 +83,8 @@ pub fn working(seeds: &[u64]) -> Vec<Line> {
         let pool = thousand(seed);
         let (mut cores, none, mut sheet) = (Cores::default(), vec![false; pool.size()], Sheet::room(pool.size()));
         let [ours, levels, all, check] = times(
-            301,
+            21,
+            50,
             [
                 &mut || sheet.work(&pool),
                 &mut || {
@@ -111,11 +113,13 @@ pub fn search(seeds: &[u64]) -> Vec<Line> {
         let pool = thousand(seed);
         let n = pool.size();
         let (mut sheet, mut marks, mut record) = (Sheet::room(n), vec![0u8; n], Record::room(n, 0));
-        let [fresh] = times(101, [&mut || sheet.work(&pool)]);
-        let mut counts = vec![];
-        let [searches, start, cores] = times(
-            7,
+        sheet.work(&pool);
+        let (mut again, mut counts) = (Sheet::room(n), vec![]);
+        let [workings, searches, start, cores] = times(
+            5,
+            1,
             [
+                &mut || (0..n).for_each(|_| again.work(&pool)),
                 &mut || {
                     for x in 0..n {
                         planner::followers(input(&pool), &sheet.levels, &sheet.layers, x, &mut marks).unwrap();
@@ -126,6 +130,7 @@ pub fn search(seeds: &[u64]) -> Vec<Line> {
             ],
         );
         assert_eq!(record.followers, counts);
+        let fresh = workings / n as f64;
         let alone = (start - fresh) / n as f64;
         lines[0].times.push((searches / n as f64, fresh));
         lines[1].times.push((alone, fresh));
@@ -184,6 +189,7 @@ pub fn session(seeds: &[u64]) -> Vec<Line> {
         let (mut record, mut whole, mut counts) = (Record::room(1024, FEW), Record::room(1024, 1000), vec![]);
         let few = times(
             3,
+            1,
             [
                 &mut || planner::run(input(&pool), &names[..FEW], &mut record).unwrap(),
                 &mut || counts = fresh_session(&pool, &names[..FEW]),
@@ -216,6 +222,7 @@ pub fn rounds(seeds: &[u64]) -> Vec<Line> {
         let (mut sheet, mut length, mut expected) = (vec![0; 64320], 0, vec![]);
         let [ours, theirs] = times(
             3,
+            1,
             [
                 &mut || length = planner::text_to_sheet(&text, &mut sheet).unwrap(),
                 &mut || expected = quick::text_to_sheet(&text, 64320).unwrap(),

@@ -21,7 +21,7 @@ fn said(micros: f64) -> String {
 }
 
 pub fn table(lines: &[Line], seeds: usize) -> String {
-    let mut out = format!("Pools of 1,000 vertices and 5,000 random edges unless said. Medians over {seeds} seeds, of each seed the least time of several runs.\nThe ratio is left to right, with the least and the greatest over the seeds.\n\n");
+    let mut out = format!("Pools of 1,000 vertices and 5,000 random edges unless said. Processor time; medians over {seeds} seeds, of each seed the least of several runs.\nThe ratio is left to right, with the least and the greatest over the seeds.\n\n");
     out.push_str("| the planner | against | left | right | ratio | least to greatest |\n|---|---|---|---|---|---|\n");
     for line in lines {
         let (middle, least, most) = ratio(line);
