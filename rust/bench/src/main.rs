@@ -12,7 +12,7 @@ fn main() -> std::io::Result<()> {
     lines.extend(measures::search(&seeds));
     lines.extend(measures::session(&seeds));
     lines.extend(measures::rounds(&seeds));
-    let table = report::table(&lines, seeds.len()) + "\n" + &measures::reached(&seeds);
+    let table = report::table(&lines, seeds.len());
     print!("{table}");
     report::write(&table, &report::plot(&lines))
 }

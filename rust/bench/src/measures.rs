@@ -72,6 +72,13 @@ impl Sheet {
     }
 }
 
+/// Each call goes through as many pools in turn, so that no branch predictor learns one of them.
+const POOLS: usize = 20;
+
+fn several(seed: u64) -> Vec<Pool> {
+    (0..POOLS as u64).map(|i| thousand(seed * 1000 + i)).collect()
+}
+
 pub fn working(seeds: &[u64]) -> Vec<Line> {
     let work = "fresh working: table check, levels, layers, components";
     let mut lines = [
@@ -80,21 +87,24 @@ pub fn working(seeds: &[u64]) -> Vec<Line> {
         Line::new("table check", "plain Rust: core numbers by buckets, nothing else"),
     ];
     for &seed in seeds {
-        let pool = thousand(seed);
-        let (mut cores, none, mut sheet) = (Cores::default(), vec![false; pool.size()], Sheet::room(pool.size()));
+        let pools = several(seed);
+        let (mut cores, none, mut sheet) = (Cores::default(), vec![false; 1000], Sheet::room(1000));
         let [ours, levels, all, check] = times(
             21,
-            50,
+            1,
             [
-                &mut || sheet.work(&pool),
+                &mut || pools.iter().for_each(|pool| sheet.work(pool)),
                 &mut || {
-                    black_box(cores.work(black_box(plain(&pool)), &none));
+                    for pool in &pools {
+                        black_box(cores.work(black_box(plain(pool)), &none));
+                    }
                 },
-                &mut || drop(black_box(quick::sheet(black_box(plain(&pool)), &none))),
-                &mut || planner::check(&pool.starts, &pool.links).unwrap(),
+                &mut || pools.iter().for_each(|pool| drop(black_box(quick::sheet(black_box(plain(pool)), &none)))),
+                &mut || pools.iter().for_each(|pool| planner::check(&pool.starts, &pool.links).unwrap()),
             ],
-        );
-        assert_eq!(cores.work(plain(&pool), &none), sheet.levels);
+        )
+        .map(|pass| pass / POOLS as f64);
+        assert_eq!(cores.work(plain(&pools[POOLS - 1]), &none), sheet.levels);
         lines[0].times.push((ours, levels));
         lines[1].times.push((ours, all));
         lines[2].times.push((check, levels));
@@ -110,48 +120,41 @@ pub fn search(seeds: &[u64]) -> Vec<Line> {
         Line::new(alone, "plain Rust: core numbers by buckets with x anchored, average over all x"),
     ];
     for &seed in seeds {
-        let pool = thousand(seed);
-        let n = pool.size();
-        let (mut sheet, mut marks, mut record) = (Sheet::room(n), vec![0u8; n], Record::room(n, 0));
-        sheet.work(&pool);
-        let (mut again, mut counts) = (Sheet::room(n), vec![]);
-        let [workings, searches, start, cores] = times(
-            5,
+        let pools = several(seed);
+        let (mut marks, mut record, mut again) = (vec![0u8; 1000], Record::room(1000, 0), Sheet::room(1000));
+        let sheets: Vec<Sheet> = pools
+            .iter()
+            .map(|pool| {
+                let mut sheet = Sheet::room(1000);
+                sheet.work(pool);
+                sheet
+            })
+            .collect();
+        let mut counts = vec![];
+        let [fresh, searches, start, cores] = times(
+            3,
             1,
             [
-                &mut || (0..n).for_each(|_| again.work(&pool)),
+                &mut || pools.iter().for_each(|pool| again.work(pool)),
                 &mut || {
-                    for x in 0..n {
-                        planner::followers(input(&pool), &sheet.levels, &sheet.layers, x, &mut marks).unwrap();
+                    for x in 0..1000 {
+                        for (pool, sheet) in pools.iter().zip(&sheets) {
+                            planner::followers(input(pool), &sheet.levels, &sheet.layers, x, &mut marks).unwrap();
+                        }
                     }
                 },
-                &mut || planner::run(input(&pool), &[], &mut record).unwrap(),
-                &mut || counts = quick::follower_counts(plain(&pool), &vec![false; n]),
+                &mut || pools.iter().for_each(|pool| planner::run(input(pool), &[], &mut record).unwrap()),
+                &mut || pools.iter().for_each(|pool| counts = quick::follower_counts(plain(pool), &vec![false; 1000])),
             ],
-        );
+        )
+        .map(|pass| pass / POOLS as f64);
         assert_eq!(record.followers, counts);
-        let fresh = workings / n as f64;
-        let alone = (start - fresh) / n as f64;
-        lines[0].times.push((searches / n as f64, fresh));
+        let alone = (start - fresh) / 1000.0;
+        lines[0].times.push((searches / 1000.0, fresh));
         lines[1].times.push((alone, fresh));
-        lines[2].times.push((alone, cores / n as f64));
+        lines[2].times.push((alone, cores / 1000.0));
     }
     lines.into()
-}
-
-/// How far the searches of each seed reach, which their times follow.
-pub fn reached(seeds: &[u64]) -> String {
-    let average = |&seed: &u64| {
-        let pool = thousand(seed);
-        let n = pool.size();
-        let (mut sheet, mut marks) = (Sheet::room(n), vec![0u8; n]);
-        sheet.work(&pool);
-        let all: usize =
-            (0..n).map(|x| planner::followers(input(&pool), &sheet.levels, &sheet.layers, x, &mut marks).unwrap().1).sum();
-        format!("{:.0}", all as f64 / n as f64)
-    };
-    let averages: Vec<String> = seeds.iter().map(average).collect();
-    format!("A search's time follows how many it reaches: on average, seed by seed, {} vertices.\n", averages.join(", "))
 }
 
 /// Every row afresh: the sheet, and a working of all levels for each vertex not anchored.
