@@ -23,7 +23,8 @@ use Rattle.anchored.proofs.Session.{status-free, turn-accepted, turn-refused, r
 use Rattle.level.specs.Input.{graphOf, anchoredBy, Admitted}
 use Rattle.level.specs.Arrays.{Holds}
 use Rattle.level.proofs.Laws.{simple}
-use Rattle.session.specs.Record.{Sheet, Right, plainOf, rowAs}
+use Rattle.change.specs.Sheet.{Sheet}
+use Rattle.session.specs.Record.{Right, plainOf, rowAs}
 use Rattle.session.specs.Rows.{Renewed, Redone, Stands}
 
 -- ---- bytes

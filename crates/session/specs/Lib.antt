@@ -1,4 +1,3 @@
 pub mod Record
-pub mod Change
 pub mod Rows
 pub mod Run

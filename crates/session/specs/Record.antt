@@ -3,19 +3,11 @@ use mathlib.Core.List.{List}
 use Prim.Native.Nat.{ℕ, _≤_}
 use lib.ListN.{length, getD}
 use Rattle.table.specs.Table.{vertices}
-use Rattle.anchored.specs.Core.{level, layer}
-use Rattle.anchored.specs.Component.{component}
 use Rattle.anchored.specs.Followers.{followerCount}
 use Rattle.anchored.specs.Session.{Plain, Row}
-use Rattle.level.specs.Input.{graphOf, anchoredBy, Admitted}
+use Rattle.level.specs.Input.{graphOf, anchoredBy}
 use Rattle.level.specs.Arrays.{Holds}
-
--- the sheet is the defined one for the anchors in a: levels, layers, components
-pub record Sheet (s l a lev lay comps : List ℕ) : Type 0 where
-  pub admitted : Admitted s l a
-  pub levels : Holds lev (vertices s) (level (graphOf s l) (anchoredBy a))
-  pub layers : Holds lay (vertices s) (layer (graphOf s l) (anchoredBy a))
-  pub components : Holds comps (vertices s) (component (graphOf s l) (anchoredBy a))
+use Rattle.change.specs.Sheet.{Sheet}
 
 -- the record is right: the sheet, and every follower count
 pub record Right (s l a lev lay comps fol : List ℕ) : Type 0 where

@@ -7,7 +7,7 @@ ghost use Rattle.anchored.specs.Core.{layer as layerOf};
 ghost use Rattle.anchored.specs.Followers.{followerCount};
 ghost use Rattle.level.specs.Input.{graphOf, anchoredBy, Admitted};
 ghost use Rattle.level.specs.Arrays.{Holds};
-ghost use Rattle.session.specs.Record.{Sheet};
+ghost use Rattle.change.specs.Sheet.{Sheet};
 
 // Levels, layers and components, into the first n places.
 pub fn refresh(

@@ -5,8 +5,9 @@ ghost use lib.ListN.{length, getD};
 ghost use Rattle.table.specs.Table.{vertices};
 ghost use Rattle.anchored.specs.Session.{turn, rowOf};
 ghost use Rattle.level.specs.Input.{graphOf};
-ghost use Rattle.session.specs.Record.{Sheet as SheetOf, Right, plainOf, rowAs};
-ghost use Rattle.session.specs.Change.{MarksChanged};
+ghost use Rattle.change.specs.Sheet.{Sheet as SheetOf};
+ghost use Rattle.change.specs.Change.{MarksChanged};
+ghost use Rattle.session.specs.Record.{Right, plainOf, rowAs};
 ghost use Rattle.session.specs.Rows.{Redone, Stands};
 use super::record::Record;
 use super::record::Row;
@@ -40,7 +41,7 @@ fn redo(
     let mut redone: usize = 0;
     let mut u: usize = 0;
     while u < n {
-        if super::change::is_recomputed(
+        if change::is_recomputed(
             starts,
             links,
             before_anchored,
@@ -91,7 +92,7 @@ fn accept(starts: &[u16], links: &[u16], old: Record, x: usize, position: u16) -
         &mut component,
     );
     let mut changed = [0u8; 1024];
-    super::change::mark_changed(
+    change::mark_changed(
         starts,
         links,
         &before_anchored,

@@ -5,7 +5,7 @@ use lib.Dec.{T}
 use Rattle.table.specs.Table.{vertices}
 use Rattle.level.specs.Input.{anchoredBy}
 use Rattle.level.proofs.Laws.{byte-free}
-use Rattle.session.proofs.Laws.{numbered}
+use Rattle.change.proofs.Laws.{numbered}
 use Rattle.session.proofs.Steps.{admitted-set, right-after, stands-after, row-counted, redone-le}
 use Rattle.session.proofs.step.accept.Statement.{statement}
 use Rattle.session.proofs.step.accept.Tie as tie

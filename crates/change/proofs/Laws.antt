@@ -22,8 +22,8 @@ use Rattle.anchored.proofs.Changed.{component-lt, recomputed-changed}
 use Rattle.level.specs.Input.{graphOf, anchoredBy, Admitted}
 use Rattle.level.specs.Arrays.{Holds}
 use Rattle.level.proofs.Laws.{simple}
-use Rattle.session.specs.Record.{Sheet}
-use Rattle.session.specs.Change.{Numbered, MarksChanged, higherBy, marking, marked, looksInto, looksThrough}
+use Rattle.change.specs.Sheet.{Sheet}
+use Rattle.change.specs.Change.{Numbered, MarksChanged, higherBy, marking, marked, looksInto, looksThrough}
 
 -- the part of a sheet that tells whether a vertex is steady
 pub numbered : (s l a lev lay comps : List ℕ) → Sheet s l a lev lay comps → Numbered s l a lev comps

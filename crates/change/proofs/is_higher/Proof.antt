@@ -1,9 +1,9 @@
--- `change::is_higher` meets its contract: of two pairs of layer 0 the greater is the one of greater level. Assumes nothing.
+-- `is_higher` meets its contract: of two pairs of layer 0 the greater is the one of greater level. Assumes nothing.
 use borrow.Author.Tests.{eq-eqb, ne-eqb}
 use Rattle.finite.proofs.Pairs.{pair-zero-not}
 use borrow.Author.Needs.{needs}
-use Rattle.session.proofs.change.is_higher.Statement.{statement}
-use Rattle.session.proofs.change.is_higher.Tie as tie
+use Rattle.change.proofs.is_higher.Statement.{statement}
+use Rattle.change.proofs.is_higher.Tie as tie
 
 element-copy-out-if1 : tie.Need-element-copy-out-if1
 element-copy-out-if1 c = search needs

@@ -1,14 +1,14 @@
--- `change::is_recomputed` meets its contract. Assumes nothing.
+-- `is_recomputed` meets its contract. Assumes nothing.
 use mathlib.Core.Path.{_≡_, sym, _∙_}
 use mathlib.Core.Bool.{not, _&&_, _||_}
 use borrow.Author.Tests.{eq-eqb, ne-eqb}
 use Rattle.anchored.specs.Step.{recomputed}
 use Rattle.level.specs.Input.{graphOf, anchoredBy}
-use Rattle.session.specs.Change.{marked, looksInto}
-use Rattle.session.proofs.Laws.{recomputed-looks}
+use Rattle.change.specs.Change.{marked, looksInto}
+use Rattle.change.proofs.Laws.{recomputed-looks}
 use borrow.Author.Needs.{needs}
-use Rattle.session.proofs.change.is_recomputed.Statement.{statement}
-use Rattle.session.proofs.change.is_recomputed.Tie as tie
+use Rattle.change.proofs.is_recomputed.Statement.{statement}
+use Rattle.change.proofs.is_recomputed.Tie as tie
 
 -- the row is recomputed, by the marks
 by-marks : (c : tie.Start) → let args = c .args in let G = graphOf (args .starts .now) (args .links .now) in

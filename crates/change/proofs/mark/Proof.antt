@@ -1,8 +1,8 @@
--- `change::mark` meets its contract. Assumes nothing.
+-- `mark` meets its contract. Assumes nothing.
 use borrow.Author.Tests.{lt-ltb, le-ltb}
 use borrow.Author.Needs.{needs}
-use Rattle.session.proofs.change.mark.Statement.{statement}
-use Rattle.session.proofs.change.mark.Tie as tie
+use Rattle.change.proofs.mark.Statement.{statement}
+use Rattle.change.proofs.mark.Tie as tie
 
 element-write-changed : tie.Need-element-write-changed
 element-write-changed c = search needs

@@ -1,4 +1,4 @@
--- `change::looks` meets its contract. The invariant: u looks into a marked component through none of the first i neighbors. Assumes nothing.
+-- `looks` meets its contract. The invariant: u looks into a marked component through none of the first i neighbors. Assumes nothing.
 use mathlib.Core.Path.{_≡_, sym, ap, subst, _∙_}
 use Prim.Native.Nat.{_-_, _≤_, _<_}
 use native.Mathlib.Omega.{arith}
@@ -10,10 +10,10 @@ use Rattle.finite.proofs.Count.{in-at}
 use Rattle.finite.proofs.Search.{any-at, any-none}
 use Rattle.table.specs.Table.{vertices}
 use Rattle.level.specs.Input.{graphOf, anchoredBy}
-use Rattle.session.specs.Change.{marked, looksInto, looksThrough}
-use Rattle.session.proofs.Laws.{component-below, looks-by}
-use Rattle.session.proofs.change.looks.Statement.{statement}
-use Rattle.session.proofs.change.looks.Tie as tie
+use Rattle.change.specs.Change.{marked, looksInto, looksThrough}
+use Rattle.change.proofs.Laws.{component-below, looks-by}
+use Rattle.change.proofs.looks.Statement.{statement}
+use Rattle.change.proofs.looks.Tie as tie
 use borrow.Author.Needs.{needs}
 
 abbrev Inv-loop : tie.InvT-loop

@@ -1,4 +1,4 @@
--- `change::mark_changed` meets its contract. The invariant: the marks are the numbers that the vertices below v change. Assumes nothing.
+-- `mark_changed` meets its contract. The invariant: the marks are the numbers that the vertices below v change. Assumes nothing.
 use mathlib.Core.Path.{_≡_, sym, ap, subst, _∙_}
 use mathlib.Core.Logic.{⊎-elim}
 use Prim.Native.Nat.{_-_, _≤_, _<_}
@@ -6,10 +6,10 @@ use native.Mathlib.Omega.{arith}
 use borrow.Author.Tests.{not-true, not-false}
 use Rattle.table.specs.Table.{vertices}
 use lib.ListN.{getD}
-use Rattle.session.specs.Change.{marking}
-use Rattle.session.proofs.Laws.{MarksBelow, marks-none, marks-steady, marks-more, marks-all}
-use Rattle.session.proofs.change.mark_changed.Statement.{statement}
-use Rattle.session.proofs.change.mark_changed.Tie as tie
+use Rattle.change.specs.Change.{marking}
+use Rattle.change.proofs.Laws.{MarksBelow, marks-none, marks-steady, marks-more, marks-all}
+use Rattle.change.proofs.mark_changed.Statement.{statement}
+use Rattle.change.proofs.mark_changed.Tie as tie
 use borrow.Author.Needs.{needs}
 
 abbrev Inv-loop : tie.InvT-loop

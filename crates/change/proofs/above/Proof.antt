@@ -1,14 +1,14 @@
--- `change::above` meets its contract. The invariant: the count is that of the first i neighbors. Assumes nothing.
+-- `above` meets its contract. The invariant: the count is that of the first i neighbors. Assumes nothing.
 use mathlib.Core.Path.{_≡_, ap, subst, _∙_}
 use Prim.Native.Nat.{_-_, _≤_, _<_}
 use native.Mathlib.Omega.{arith}
 use lib.ListN.{length, take, getD}
 use Rattle.finite.specs.Count.{bit, count as countOf, In}
 use Rattle.finite.proofs.Count.{bit-le, in-at, count-start, count-more, count-end}
-use Rattle.session.specs.Change.{higherBy}
-use Rattle.session.proofs.Laws.{above-counted}
-use Rattle.session.proofs.change.above.Statement.{statement}
-use Rattle.session.proofs.change.above.Tie as tie
+use Rattle.change.specs.Change.{higherBy}
+use Rattle.change.proofs.Laws.{above-counted}
+use Rattle.change.proofs.above.Statement.{statement}
+use Rattle.change.proofs.above.Tie as tie
 use borrow.Author.Needs.{needs}
 
 abbrev Inv-loop : tie.InvT-loop

@@ -1,10 +1,10 @@
--- `change::is_steady` meets its contract. Assumes nothing.
+-- `is_steady` meets its contract. Assumes nothing.
 use mathlib.Core.Path.{sym, _∙_}
 use borrow.Author.Tests.{eq-eqb, ne-eqb}
-use Rattle.session.proofs.Laws.{steady-by}
+use Rattle.change.proofs.Laws.{steady-by}
 use borrow.Author.Needs.{needs}
-use Rattle.session.proofs.change.is_steady.Statement.{statement}
-use Rattle.session.proofs.change.is_steady.Tie as tie
+use Rattle.change.proofs.is_steady.Statement.{statement}
+use Rattle.change.proofs.is_steady.Tie as tie
 
 element-copy-out-if1 : tie.Need-element-copy-out-if1
 element-copy-out-if1 c = search needs

@@ -10,8 +10,8 @@ ghost use Rattle.anchored.specs.Step.{above as aboveOf, recomputed};
 ghost use Rattle.anchored.specs.Changed.{steady};
 ghost use Rattle.level.specs.Input.{graphOf, anchoredBy, Admitted};
 ghost use Rattle.level.specs.Arrays.{Holds};
-ghost use Rattle.session.specs.Record.{Sheet};
-ghost use Rattle.session.specs.Change.{Numbered, MarksChanged, higherBy, marking, marked, looksInto, looksThrough};
+ghost use Rattle.change.specs.Sheet.{Sheet};
+ghost use Rattle.change.specs.Change.{Numbered, MarksChanged, higherBy, marking, marked, looksInto, looksThrough};
 use level::pair::Pair;
 
 // Whether w is anchored or of a level above `floor`: levels alone are compared as pairs of layer 0.

@@ -1,4 +1,4 @@
--- `change::looks_through` meets its contract. Assumes nothing.
+-- `looks_through` meets its contract. Assumes nothing.
 use mathlib.Core.Path.{_≡_, sym, _∙_}
 use Prim.Native.Nat.{_<_}
 use native.Mathlib.Omega.{arith}
@@ -8,8 +8,8 @@ use Rattle.finite.specs.Pairs.{pairLe}
 use Rattle.finite.proofs.Tests.{of-false}
 use Rattle.level.specs.Input.{anchoredBy}
 use borrow.Author.Needs.{needs}
-use Rattle.session.proofs.change.looks_through.Statement.{statement}
-use Rattle.session.proofs.change.looks_through.Tie as tie
+use Rattle.change.proofs.looks_through.Statement.{statement}
+use Rattle.change.proofs.looks_through.Tie as tie
 
 -- the test of the pairs, by the arrays
 pairs : (c : tie.After-at-or-above) → let args = c .before .before .before .before .before .before .before .before .before .args in
