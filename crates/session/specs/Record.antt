@@ -7,8 +7,8 @@ use Rattle.anchored.specs.Core.{level, layer}
 use Rattle.anchored.specs.Component.{component}
 use Rattle.anchored.specs.Followers.{followerCount}
 use Rattle.anchored.specs.Session.{Plain, Row}
-use Rattle.level.specs.Input.{graphOf, anchoredBy, Admitted}
-use Rattle.level.specs.Arrays.{Holds}
+use Rattle.shells.specs.Input.{graphOf, anchoredBy, Admitted}
+use Rattle.shells.specs.Arrays.{Holds}
 
 -- the sheet is the defined one for the anchors in a: levels, layers, components
 pub record Sheet (s l a lev lay comps : List ℕ) : Type 0 where
