@@ -13,7 +13,7 @@ use Rattle.table.specs.declared.Refusal.{Refusal}
 use Rattle.table.specs.declared.Checked.{Checked}
 use Rattle.table.specs.declared.Checked.the-variants.{Sound, Refused as TableRefused}
 use Rattle.table.proofs.Laws.{sound}
-use Rattle.level.specs.Input.{graphOf, anchoredBy, Admitted}
+use Rattle.shells.specs.Input.{graphOf, anchoredBy, Admitted}
 use Rattle.text.specs.declared.read.Summary.{Summary}
 use Rattle.sheet.specs.Written.{Written}
 use Rattle.sheet.proofs.Lines.{sheet-whole}

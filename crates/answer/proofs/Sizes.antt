@@ -8,7 +8,7 @@ use native.Mathlib.Omega.{arith}
 use lib.ListN.{length}
 use lib.Dec.{ltb}
 use Rattle.table.specs.Table.{vertices}
-use Rattle.level.specs.Input.{graphOf}
+use Rattle.shells.specs.Input.{graphOf}
 use Rattle.finite.specs.Search.{member}
 use Rattle.text.specs.Text.{readingOf, startsRead, linksRead, retainedRead}
 use Rattle.text.specs.declared.read.Summary.{Summary}

@@ -7,7 +7,7 @@ use lib.Dec.{ltb}
 use Rattle.finite.specs.Search.{member}
 use Rattle.table.specs.Table.{vertices, checkOf}
 use Rattle.table.specs.declared.Checked.the-variants.{Sound, Refused as TableRefused}
-use Rattle.level.specs.Input.{graphOf}
+use Rattle.shells.specs.Input.{graphOf}
 use Rattle.text.specs.Text.{readingOf, startsRead, linksRead, retainedRead}
 use Rattle.text.specs.declared.read.Summary.{Summary}
 use Rattle.text.specs.declared.read.Reading.the-variants.{Read, Departs}

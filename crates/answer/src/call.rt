@@ -2,7 +2,7 @@
 ghost use mathlib.Core.Path.{_≡_};
 ghost use Prim.Native.Nat.{ℕ, _+_, _≤_, _<_};
 ghost use lib.ListN.{length, getD, take};
-ghost use Rattle.level.specs.Input.{anchoredBy};
+ghost use Rattle.shells.specs.Input.{anchoredBy};
 ghost use Rattle.answer.specs.Answer.{refuse as refuseOf, roomOf, askedOf, answerOf, roundsSheet, sheetOfText, lent};
 
 // The answer: the length of the sheet, or a refusal.

@@ -19,9 +19,9 @@ use Rattle.anchored.specs.Component.{component}
 use Rattle.anchored.specs.Step.{above, recomputed}
 use Rattle.anchored.specs.Changed.{steady, changed}
 use Rattle.anchored.proofs.Changed.{component-lt, recomputed-changed}
-use Rattle.level.specs.Input.{graphOf, anchoredBy, Admitted}
-use Rattle.level.specs.Arrays.{Holds}
-use Rattle.level.proofs.Laws.{simple}
+use Rattle.shells.specs.Input.{graphOf, anchoredBy, Admitted}
+use Rattle.shells.specs.Arrays.{Holds}
+use Rattle.shells.proofs.Laws.{simple}
 use Rattle.change.specs.Sheet.{Sheet}
 use Rattle.change.specs.Change.{Numbered, MarksChanged, higherBy, marking, marked, looksInto, looksThrough}
 

@@ -12,8 +12,8 @@ use Rattle.anchored.specs.Graph.{Graph}
 use Rattle.anchored.specs.Core.{level, greater}
 use Rattle.anchored.specs.Component.{component}
 use Rattle.anchored.specs.Changed.{changed}
-use Rattle.level.specs.Input.{graphOf, anchoredBy, Admitted}
-use Rattle.level.specs.Arrays.{Holds}
+use Rattle.shells.specs.Input.{graphOf, anchoredBy, Admitted}
+use Rattle.shells.specs.Arrays.{Holds}
 
 -- the part of a sheet that tells whether a vertex is steady: levels and components
 pub record Numbered (s l a lev comps : List ℕ) : Type 0 where

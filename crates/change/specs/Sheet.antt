@@ -4,8 +4,8 @@ use Prim.Native.Nat.{ℕ}
 use Rattle.table.specs.Table.{vertices}
 use Rattle.anchored.specs.Core.{level, layer}
 use Rattle.anchored.specs.Component.{component}
-use Rattle.level.specs.Input.{graphOf, anchoredBy, Admitted}
-use Rattle.level.specs.Arrays.{Holds}
+use Rattle.shells.specs.Input.{graphOf, anchoredBy, Admitted}
+use Rattle.shells.specs.Arrays.{Holds}
 
 -- the sheet is the defined one for the anchors in a: levels, layers, components
 pub record Sheet (s l a lev lay comps : List ℕ) : Type 0 where

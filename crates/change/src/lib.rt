@@ -8,11 +8,11 @@ ghost use Rattle.table.specs.Table.{vertices};
 ghost use Rattle.anchored.specs.Core.{level as levelOf};
 ghost use Rattle.anchored.specs.Step.{above as aboveOf, recomputed};
 ghost use Rattle.anchored.specs.Changed.{steady};
-ghost use Rattle.level.specs.Input.{graphOf, anchoredBy, Admitted};
-ghost use Rattle.level.specs.Arrays.{Holds};
+ghost use Rattle.shells.specs.Input.{graphOf, anchoredBy, Admitted};
+ghost use Rattle.shells.specs.Arrays.{Holds};
 ghost use Rattle.change.specs.Sheet.{Sheet};
 ghost use Rattle.change.specs.Change.{Numbered, MarksChanged, higherBy, marking, marked, looksInto, looksThrough};
-use level::pair::Pair;
+use shells::pair::Pair;
 
 // Whether w is anchored or of a level above `floor`: levels alone are compared as pairs of layer 0.
 fn is_higher(anchored: &[u8; 1024], level: &[u16; 1024], floor: u16, w: usize) -> bool

@@ -12,10 +12,10 @@ use Rattle.table.specs.declared.Refusal.{Refusal}
 use Rattle.table.specs.declared.Checked.{Checked}
 use Rattle.table.specs.declared.Checked.the-variants.{Sound, Refused}
 use Rattle.anchored.specs.Component.{heads}
-use Rattle.level.specs.Input.{graphOf, anchoredBy, admitOf, Admitted}
+use Rattle.shells.specs.Input.{graphOf, anchoredBy, admitOf, Admitted}
+use Rattle.shells.proofs.Laws.{went-through, admitted}
 use Rattle.level.specs.Answers.{workOf, listOf}
 use Rattle.level.specs.declared.listing.Listed.the-variants.{Count, Refused as ListRefused}
-use Rattle.level.proofs.Laws.{went-through, admitted}
 
 -- where a test that fails leads to a refusal, an answer that is sound passed it
 pub passed : (b : Bool) (k p : ℕ) (rest : Checked) → cond b rest (refused k p) ≡ Sound → T b × (rest ≡ Sound)

@@ -17,7 +17,7 @@ use Rattle.finite.proofs.Count.{bit-yes, bit-no, in-at, in-below, length-below,
 use Rattle.anchored.specs.Graph.{Graph}
 use Rattle.anchored.specs.Core.{level}
 use Rattle.anchored.specs.Component.{component, together, heads, componentSize}
-use Rattle.level.specs.Arrays.{Holds}
+use Rattle.shells.specs.Arrays.{Holds}
 use Rattle.level.specs.Answers.{Lists, Keeps}
 use Rattle.level.specs.Entries.{numbered, members, Entries}
 

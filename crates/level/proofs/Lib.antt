@@ -1,7 +1,3 @@
 pub mod Laws
-pub mod Arrays
-pub mod Peeling
-pub mod Steps
-pub mod Flooding
 pub mod Answers
 pub mod Entries

@@ -12,7 +12,7 @@ use Rattle.table.specs.declared.Checked.the-variants.{Sound, Refused}
 use Rattle.anchored.specs.Graph.{Graph}
 use Rattle.anchored.specs.Core.{level}
 use Rattle.anchored.specs.Component.{heads, componentSize}
-use Rattle.level.specs.Input.{graphOf, anchoredBy, admitOf}
+use Rattle.shells.specs.Input.{graphOf, anchoredBy, admitOf}
 use Rattle.level.specs.declared.listing.Listed.{Listed}
 use Rattle.level.specs.declared.listing.Listed.the-variants.{Count, Refused as ListRefused}
 

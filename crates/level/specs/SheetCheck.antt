@@ -10,8 +10,8 @@ use Rattle.table.specs.declared.Checked.{Checked}
 use Rattle.table.specs.declared.Checked.the-variants.{Sound, Refused}
 use Rattle.anchored.specs.Core.{level, layer}
 use Rattle.anchored.specs.Sheet.{atLeast, fits, isLocal, isDefined}
-use Rattle.level.specs.Arrays.{Holds}
-use Rattle.level.specs.Input.{graphOf, anchoredBy, admitOf}
+use Rattle.shells.specs.Arrays.{Holds}
+use Rattle.shells.specs.Input.{graphOf, anchoredBy, admitOf}
 
 -- 13 for either half not n long, 14 for a sheet that is not the defined one
 unfoldable pub sheetOf : List ℕ → List ℕ → List ℕ → List ℕ → List ℕ → Checked

@@ -5,8 +5,8 @@ ghost use lib.ListN.{length, getD};
 ghost use Rattle.finite.specs.Count.{count as countIn, below};
 ghost use Rattle.table.specs.Table.{vertices};
 ghost use Rattle.anchored.specs.Component.{heads};
-ghost use Rattle.level.specs.Input.{graphOf, anchoredBy, Admitted};
-ghost use Rattle.level.specs.Arrays.{Holds};
+ghost use Rattle.shells.specs.Input.{graphOf, anchoredBy, Admitted};
+ghost use Rattle.shells.specs.Arrays.{Holds};
 ghost use Rattle.level.specs.Answers.{listOf, Lists, Keeps, Holding};
 ghost use Rattle.level.specs.Entries.{numbered, members, Entries};
 

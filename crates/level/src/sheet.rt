@@ -4,9 +4,9 @@ ghost use Prim.Native.Nat.{ℕ, _-_, _<_};
 ghost use lib.ListN.{length};
 ghost use Rattle.finite.specs.Count.{count, In};
 ghost use Rattle.table.specs.Table.{vertices};
-ghost use Rattle.level.specs.Input.{Admitted};
+ghost use Rattle.shells.specs.Input.{Admitted};
 ghost use Rattle.level.specs.SheetCheck.{HasRow, standsAt, fitsOf, localOf, sheetOf, checkSheetOf};
-use super::pair::Pair;
+use shells::pair::Pair;
 
 // Of a vertex with pair (k, l): how many neighbors are anchored, or at or above another pair.
 struct Support {
@@ -154,7 +154,7 @@ pub fn check_sheet(
 ) -> table::Checked
     ensures { λ r. ⌜ r ≡ checkSheetOf (now (starts .entry)) (now (links .entry)) (now (anchored .entry)) (now (levels .entry)) (now (layers .entry)) ⌝ }
 {
-    let admitted = super::input::admit(starts, links, anchored);
+    let admitted = shells::input::admit(starts, links, anchored);
     match admitted {
         table::Checked::Refused(refusal) => table::Checked::Refused(refusal),
         table::Checked::Sound => test_sheet(starts, links, anchored, levels, layers),

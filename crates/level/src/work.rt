@@ -5,8 +5,8 @@ ghost use Rattle.finite.specs.Count.{tabulate};
 ghost use Rattle.table.specs.Table.{vertices};
 ghost use Rattle.anchored.specs.Core.{level as levelOf, layer as layerOf};
 ghost use Rattle.anchored.specs.Component.{component as componentOf};
-ghost use Rattle.level.specs.Input.{graphOf, anchoredBy, Admitted};
-ghost use Rattle.level.specs.Arrays.{Holds};
+ghost use Rattle.shells.specs.Input.{graphOf, anchoredBy, Admitted};
+ghost use Rattle.shells.specs.Arrays.{Holds};
 ghost use Rattle.level.specs.Answers.{workOf, written};
 
 // Refusals 1 to 10, and 12 for three slices that are not all of n, or `Sound`.
@@ -20,7 +20,7 @@ pub fn admit_slices(
 ) -> table::Checked
     ensures { λ r. ⌜ r ≡ workOf (now (starts .entry)) (now (links .entry)) (now (anchored .entry)) first second third ⌝ }
 {
-    let admitted = crate::input::admit(starts, links, anchored);
+    let admitted = shells::input::admit(starts, links, anchored);
     match admitted {
         table::Checked::Refused(refusal) => table::Checked::Refused(refusal),
         table::Checked::Sound => {
@@ -46,8 +46,8 @@ pub fn fill(
     ensures layers { λ _. ⌜ Holds (now (layer .exit)) (vertices (now (starts .entry))) (layerOf (graphOf (now (starts .entry)) (now (links .entry))) (anchoredBy (now (anchored .entry)))) ⌝ }
     ensures components { λ _. ⌜ Holds (now (component .exit)) (vertices (now (starts .entry))) (componentOf (graphOf (now (starts .entry)) (now (links .entry))) (anchoredBy (now (anchored .entry)))) ⌝ }
 {
-    crate::peel::peel(starts, links, anchored, level, layer);
-    crate::flood::flood(starts, links, anchored, &level[..], component);
+    shells::peel::peel(starts, links, anchored, level, layer);
+    shells::flood::flood(starts, links, anchored, &level[..], component);
 }
 
 // Levels, layers and components of an admitted table, into slices of n.

@@ -6,7 +6,7 @@ ghost use Rattle.table.specs.Table.{vertices};
 ghost use Rattle.anchored.specs.Core.{level, layer};
 ghost use Rattle.anchored.specs.Component.{component};
 ghost use Rattle.anchored.specs.Followers.{mark};
-ghost use Rattle.level.specs.Input.{graphOf, anchoredBy};
+ghost use Rattle.shells.specs.Input.{graphOf, anchoredBy};
 ghost use Rattle.level.specs.SheetCheck.{checkSheetOf};
 ghost use Rattle.level.specs.Answers.{workOf, written, listOf, Holding};
 ghost use Rattle.search.specs.Answers.{followersOf, marked};

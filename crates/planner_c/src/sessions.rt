@@ -7,7 +7,7 @@ ghost use Rattle.anchored.specs.Core.{level as levelOf};
 ghost use Rattle.anchored.specs.Core.{layer as layerOf};
 ghost use Rattle.anchored.specs.Component.{component as componentOf};
 ghost use Rattle.anchored.specs.Followers.{followerCount};
-ghost use Rattle.level.specs.Input.{graphOf};
+ghost use Rattle.shells.specs.Input.{graphOf};
 ghost use Rattle.level.specs.Answers.{written};
 ghost use Rattle.session.specs.Run.{runOf, sessionOf, rowAt};
 ghost use Rattle.planner_c.specs.Answers.{checkedAs};

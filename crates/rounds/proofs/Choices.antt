@@ -14,7 +14,7 @@ use Rattle.finite.proofs.Search.{all-below-i, all-below-e, first-hit, first-non
 use Rattle.table.specs.Table.{vertices}
 use Rattle.anchored.specs.Followers.{followers, followerCount, best, choice}
 use Rattle.anchored.proofs.Choice.{best-i, best-free, best-greatest}
-use Rattle.level.specs.Input.{graphOf, anchoredBy}
+use Rattle.shells.specs.Input.{graphOf, anchoredBy}
 use Rattle.session.specs.Record.{Right}
 use Rattle.rounds.specs.Rounds.{bestBy, choiceBy}
 

@@ -15,8 +15,8 @@ use Rattle.anchored.specs.Graph.{Graph}
 use Rattle.anchored.specs.Followers.{mark, choice}
 use Rattle.anchored.specs.Session.{Plain, turn, rowOf, after}
 use Rattle.anchored.proofs.Choice.{choice-best, best-free}
-use Rattle.level.specs.Input.{graphOf, anchoredBy}
-use Rattle.level.specs.Arrays.{Holds}
+use Rattle.shells.specs.Input.{graphOf, anchoredBy}
+use Rattle.shells.specs.Arrays.{Holds}
 use Rattle.session.specs.Record.{Right, plainOf, rowAs}
 use Rattle.session.specs.Rows.{Stands}
 use Rattle.session.specs.Run.{sessionOf}

@@ -4,7 +4,7 @@ ghost use lib.ListN.{length};
 ghost use Rattle.table.specs.Table.{vertices};
 ghost use Rattle.anchored.specs.Followers.{choice};
 ghost use Rattle.anchored.specs.Session.{turn};
-ghost use Rattle.level.specs.Input.{graphOf, anchoredBy};
+ghost use Rattle.shells.specs.Input.{graphOf, anchoredBy};
 ghost use Rattle.session.specs.Record.{Right, plainOf};
 ghost use Rattle.session.specs.Rows.{Stands};
 ghost use Rattle.sheet.specs.Written.{Written};

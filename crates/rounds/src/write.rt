@@ -3,7 +3,7 @@ ghost use mathlib.Core.Path.{_≡_};
 ghost use Prim.Native.Nat.{_+_, _*_, _≤_};
 ghost use lib.ListN.{length};
 ghost use Rattle.table.specs.Table.{vertices};
-ghost use Rattle.level.specs.Input.{graphOf, anchoredBy, Admitted};
+ghost use Rattle.shells.specs.Input.{graphOf, anchoredBy, Admitted};
 ghost use Rattle.sheet.specs.Line.{sheetOf};
 ghost use Rattle.sheet.specs.Written.{Written};
 ghost use Rattle.rounds.specs.Rounds.{roundsOf};

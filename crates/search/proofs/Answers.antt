@@ -12,9 +12,10 @@ use Rattle.table.specs.declared.Refusal.{Refusal}
 use Rattle.table.specs.declared.Checked.the-variants.{Sound, Refused}
 use Rattle.table.proofs.Laws.{went-on}
 use Rattle.anchored.specs.Followers.{followers, reached}
-use Rattle.level.specs.Input.{graphOf, anchoredBy, admitOf, Admitted}
+use Rattle.shells.specs.Input.{graphOf, anchoredBy, admitOf, Admitted}
+use Rattle.shells.proofs.Laws.{went-through, admitted, free-byte}
 use Rattle.level.specs.SheetCheck.{sheetOf, Accepted}
-use Rattle.level.proofs.Laws.{went-through, admitted, accepted, free-byte}
+use Rattle.level.proofs.Laws.{accepted}
 use Rattle.level.proofs.Answers.{passed}
 use Rattle.search.specs.Answers.{startOf, searchOf, followersOf}
 use Rattle.search.specs.declared.operation.Searched.the-variants.{Found, Refused as SearchRefused}

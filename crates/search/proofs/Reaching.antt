@@ -23,9 +23,9 @@ use Rattle.anchored.specs.Graph.{Graph, Simple}
 use Rattle.anchored.specs.Core.{level, layer, greater}
 use Rattle.anchored.specs.Followers.{firstStep, candidates}
 use Rattle.anchored.proofs.Candidates.{Walk, start, step, walk-lt, candidates-unique}
-use Rattle.level.specs.Input.{graphOf, anchoredBy}
+use Rattle.shells.specs.Input.{graphOf, anchoredBy}
 use Rattle.search.specs.Searching.{Sheet, alike, greaterOf, stepsOf, visit, visitAll, Queued}
-use Rattle.level.proofs.Laws.{simple, free-byte, byte-free}
+use Rattle.shells.proofs.Laws.{simple, free-byte, byte-free}
 
 -- ---- a visit
 

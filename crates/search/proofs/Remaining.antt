@@ -21,10 +21,10 @@ use Rattle.anchored.specs.Core.{level}
 use Rattle.anchored.specs.Followers.{adding, follows, followers, candidates, reached, mark}
 use Rattle.anchored.proofs.Candidates.{follower-candidate, candidate-free}
 use Rattle.anchored.proofs.Support.{supports, supports-mono, struck-out, settled}
-use Rattle.level.specs.Input.{graphOf, anchoredBy}
-use Rattle.level.specs.Arrays.{Holds}
+use Rattle.shells.specs.Input.{graphOf, anchoredBy}
+use Rattle.shells.specs.Arrays.{Holds}
 use Rattle.search.specs.Searching.{Sheet, alike, Reached, supportsOf, State, out, gone, lossOf, Settled}
-use Rattle.level.proofs.Laws.{simple}
+use Rattle.shells.proofs.Laws.{simple}
 use Rattle.search.proofs.Reaching.{queue-length}
 use Rattle.search.proofs.Striking.{out-length}
 

@@ -7,7 +7,7 @@ use Rattle.table.specs.Table.{vertices, refused}
 use Rattle.table.specs.declared.Checked.{Checked}
 use Rattle.table.specs.declared.Checked.the-variants.{Sound, Refused}
 use Rattle.anchored.specs.Followers.{followers, reached}
-use Rattle.level.specs.Input.{graphOf, anchoredBy, admitOf}
+use Rattle.shells.specs.Input.{graphOf, anchoredBy, admitOf}
 use Rattle.level.specs.SheetCheck.{sheetOf}
 use Rattle.level.specs.Answers.{past}
 use Rattle.search.specs.declared.operation.Searched.{Searched}

@@ -12,8 +12,8 @@ use Rattle.finite.specs.Pairs.{pairLe}
 use Rattle.table.specs.Table.{vertices, neighbors}
 use Rattle.anchored.specs.Core.{level, layer}
 use Rattle.anchored.specs.Followers.{candidates}
-use Rattle.level.specs.Input.{graphOf, anchoredBy, Admitted}
-use Rattle.level.specs.Arrays.{Holds}
+use Rattle.shells.specs.Input.{graphOf, anchoredBy, Admitted}
+use Rattle.shells.specs.Arrays.{Holds}
 
 -- what the search is handed: an admitted table and the defined sheet
 pub record Sheet (s l a levels layers : List ℕ) : Type 0 where

@@ -10,11 +10,11 @@ ghost use Rattle.anchored.specs.Core.{level as levelOf};
 ghost use Rattle.anchored.specs.Core.{layer as layerOf};
 ghost use Rattle.anchored.specs.Followers.{mark as markOf};
 ghost use Rattle.anchored.specs.Followers.{followers as followersOf, reached as reachedOf};
-ghost use Rattle.level.specs.Input.{graphOf, anchoredBy, Admitted};
-ghost use Rattle.level.specs.Arrays.{Holds};
+ghost use Rattle.shells.specs.Input.{graphOf, anchoredBy, Admitted};
+ghost use Rattle.shells.specs.Arrays.{Holds};
 ghost use Rattle.search.specs.Searching.{Sheet, greaterOf, stepsOf, visitAll, Queued, Reached};
 ghost use Rattle.search.specs.Searching.{supportsOf, marked, state, strikeOf, weakenOf, Weighed, Settled};
-use level::pair::Pair;
+use shells::pair::Pair;
 
 // How many the search lifts, and how many it reaches.
 pub struct Found {

@@ -6,7 +6,7 @@ ghost use Rattle.finite.specs.Count.{tabulate};
 ghost use Rattle.table.specs.Table.{vertices};
 ghost use Rattle.anchored.specs.Followers.{mark as markOf};
 ghost use Rattle.anchored.specs.Followers.{followers as followersIn, reached as reachedIn};
-ghost use Rattle.level.specs.Input.{graphOf, anchoredBy, Admitted};
+ghost use Rattle.shells.specs.Input.{graphOf, anchoredBy, Admitted};
 ghost use Rattle.level.specs.SheetCheck.{Accepted};
 ghost use Rattle.search.specs.Answers.{startOf, searchOf, followersOf, marked};
 ghost use Rattle.search.specs.declared.operation.Searched.the-variants.{Found};
@@ -56,7 +56,7 @@ fn test_search(
 ) -> table::Checked
     ensures { λ r. ⌜ r ≡ searchOf (now (starts .entry)) (now (links .entry)) (now (anchored .entry)) (now (levels .entry)) (now (layers .entry)) x room ⌝ }
 {
-    let admitted = level::input::admit(starts, links, anchored);
+    let admitted = shells::input::admit(starts, links, anchored);
     match admitted {
         table::Checked::Refused(refusal) => table::Checked::Refused(refusal),
         table::Checked::Sound => {

@@ -19,10 +19,10 @@ use Rattle.anchored.specs.Core.{level, layer}
 use Rattle.anchored.specs.Component.{component}
 use Rattle.anchored.specs.Followers.{followerCount}
 use Rattle.anchored.specs.Session.{Plain, after, turn, rowOf}
-use Rattle.level.specs.Input.{graphOf, admitOf}
-use Rattle.level.specs.Arrays.{Holds}
+use Rattle.shells.specs.Input.{graphOf, admitOf}
+use Rattle.shells.specs.Arrays.{Holds}
+use Rattle.shells.proofs.Laws.{went-through, admitted}
 use Rattle.level.specs.Answers.{threeOf}
-use Rattle.level.proofs.Laws.{went-through, admitted}
 use Rattle.session.specs.Record.{Right, plainOf, rowAs}
 use Rattle.session.specs.Rows.{Stands}
 use Rattle.session.specs.Run.{runOf, sessionOf, rowAt, Ready}

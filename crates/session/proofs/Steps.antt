@@ -20,9 +20,9 @@ use Rattle.anchored.specs.Step.{recomputed}
 use Rattle.anchored.specs.Session.{Plain, statusOf, rowOf, turn, after}
 use Rattle.anchored.proofs.Step.{kept-followers}
 use Rattle.anchored.proofs.Session.{status-free, turn-accepted, turn-refused, row-accepted, after-more, renewed-fresh}
-use Rattle.level.specs.Input.{graphOf, anchoredBy, Admitted}
-use Rattle.level.specs.Arrays.{Holds}
-use Rattle.level.proofs.Laws.{simple}
+use Rattle.shells.specs.Input.{graphOf, anchoredBy, Admitted}
+use Rattle.shells.specs.Arrays.{Holds}
+use Rattle.shells.proofs.Laws.{simple}
 use Rattle.change.specs.Sheet.{Sheet}
 use Rattle.session.specs.Record.{Right, plainOf, rowAs}
 use Rattle.session.specs.Rows.{Renewed, Redone, Stands}

@@ -5,8 +5,8 @@ use lib.ListN.{length, getD}
 use Rattle.table.specs.Table.{vertices}
 use Rattle.anchored.specs.Followers.{followerCount}
 use Rattle.anchored.specs.Session.{Plain, Row}
-use Rattle.level.specs.Input.{graphOf, anchoredBy}
-use Rattle.level.specs.Arrays.{Holds}
+use Rattle.shells.specs.Input.{graphOf, anchoredBy}
+use Rattle.shells.specs.Arrays.{Holds}
 use Rattle.change.specs.Sheet.{Sheet}
 
 -- the record is right: the sheet, and every follower count

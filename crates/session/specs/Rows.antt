@@ -9,8 +9,8 @@ use Rattle.finite.specs.Count.{count, below}
 use Rattle.anchored.specs.Followers.{followers}
 use Rattle.anchored.specs.Step.{recomputed}
 use Rattle.anchored.specs.Session.{Plain}
-use Rattle.level.specs.Input.{graphOf, anchoredBy}
-use Rattle.level.specs.Arrays.{Holds}
+use Rattle.shells.specs.Input.{graphOf, anchoredBy}
+use Rattle.shells.specs.Arrays.{Holds}
 
 -- an array holds a list, with zeros after it
 pub record Copied (xs ys : List ℕ) : Type 0 where

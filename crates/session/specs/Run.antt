@@ -9,7 +9,7 @@ use Rattle.table.specs.Table.{vertices, refused}
 use Rattle.table.specs.declared.Checked.{Checked}
 use Rattle.table.specs.declared.Checked.the-variants.{Sound, Refused}
 use Rattle.anchored.specs.Session.{Plain, Row, rowOf, after}
-use Rattle.level.specs.Input.{graphOf, anchoredBy, admitOf, Admitted}
+use Rattle.shells.specs.Input.{graphOf, anchoredBy, admitOf, Admitted}
 use Rattle.level.specs.Answers.{threeOf}
 
 -- 1 to 10, then 11 for more than 4,096 requests, then 12 for a slice not of its length: six of n, three of m, the number of requests

@@ -5,8 +5,8 @@ ghost use Rattle.table.specs.Table.{vertices};
 ghost use Rattle.anchored.specs.Core.{level as levelOf};
 ghost use Rattle.anchored.specs.Core.{layer as layerOf};
 ghost use Rattle.anchored.specs.Followers.{followerCount};
-ghost use Rattle.level.specs.Input.{graphOf, anchoredBy, Admitted};
-ghost use Rattle.level.specs.Arrays.{Holds};
+ghost use Rattle.shells.specs.Input.{graphOf, anchoredBy, Admitted};
+ghost use Rattle.shells.specs.Arrays.{Holds};
 ghost use Rattle.change.specs.Sheet.{Sheet};
 
 // Levels, layers and components, into the first n places.

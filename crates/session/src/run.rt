@@ -8,7 +8,7 @@ ghost use Rattle.anchored.specs.Core.{level as levelOf};
 ghost use Rattle.anchored.specs.Core.{layer as layerOf};
 ghost use Rattle.anchored.specs.Component.{component as componentOf};
 ghost use Rattle.anchored.specs.Followers.{followerCount};
-ghost use Rattle.level.specs.Input.{graphOf, Admitted};
+ghost use Rattle.shells.specs.Input.{graphOf, Admitted};
 ghost use Rattle.level.specs.Answers.{written};
 ghost use Rattle.session.specs.Record.{Right};
 ghost use Rattle.session.specs.Rows.{Stands};
@@ -101,7 +101,7 @@ fn admit(
 ) -> table::Checked
     ensures { λ r. ⌜ r ≡ runOf (now (starts .entry)) (now (links .entry)) (now (given .entry)) count anchored levels layers components followers stamps status lifted redone ⌝ }
 {
-    let admitted = level::input::admit(starts, links, given);
+    let admitted = shells::input::admit(starts, links, given);
     match admitted {
         table::Checked::Refused(refusal) => table::Checked::Refused(refusal),
         table::Checked::Sound => {

@@ -4,7 +4,7 @@ ghost use Prim.Native.Nat.{_≤_, _<_};
 ghost use lib.ListN.{length, getD};
 ghost use Rattle.table.specs.Table.{vertices};
 ghost use Rattle.anchored.specs.Session.{turn, rowOf};
-ghost use Rattle.level.specs.Input.{graphOf};
+ghost use Rattle.shells.specs.Input.{graphOf};
 ghost use Rattle.change.specs.Sheet.{Sheet as SheetOf};
 ghost use Rattle.change.specs.Change.{MarksChanged};
 ghost use Rattle.session.specs.Record.{Right, plainOf, rowAs};

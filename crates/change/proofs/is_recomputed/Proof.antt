@@ -3,7 +3,7 @@ use mathlib.Core.Path.{_≡_, sym, _∙_}
 use mathlib.Core.Bool.{not, _&&_, _||_}
 use borrow.Author.Tests.{eq-eqb, ne-eqb}
 use Rattle.anchored.specs.Step.{recomputed}
-use Rattle.level.specs.Input.{graphOf, anchoredBy}
+use Rattle.shells.specs.Input.{graphOf, anchoredBy}
 use Rattle.change.specs.Change.{marked, looksInto}
 use Rattle.change.proofs.Laws.{recomputed-looks}
 use borrow.Author.Needs.{needs}

@@ -9,7 +9,7 @@ use Rattle.finite.specs.Search.{any, NoneBelow}
 use Rattle.finite.proofs.Count.{in-at}
 use Rattle.finite.proofs.Search.{any-at, any-none}
 use Rattle.table.specs.Table.{vertices}
-use Rattle.level.specs.Input.{graphOf, anchoredBy}
+use Rattle.shells.specs.Input.{graphOf, anchoredBy}
 use Rattle.change.specs.Change.{marked, looksInto, looksThrough}
 use Rattle.change.proofs.Laws.{component-below, looks-by}
 use Rattle.change.proofs.looks.Statement.{statement}

@@ -6,7 +6,7 @@ use lib.ListN.{getD}
 use borrow.Author.Tests.{eq-eqb, ne-eqb}
 use Rattle.finite.specs.Pairs.{pairLe}
 use Rattle.finite.proofs.Tests.{of-false}
-use Rattle.level.specs.Input.{anchoredBy}
+use Rattle.shells.specs.Input.{anchoredBy}
 use borrow.Author.Needs.{needs}
 use Rattle.change.proofs.looks_through.Statement.{statement}
 use Rattle.change.proofs.looks_through.Tie as tie

@@ -5,7 +5,7 @@ use Prim.Native.Nat.{ℕ, _-_, _≤_}
 use native.Mathlib.Omega.{arith}
 use lib.ListN.{length, getD, length-set, length-replicate}
 use Rattle.finite.proofs.Count.{zeros-at, count-below-zero}
-use Rattle.level.specs.Arrays.{Holds}
+use Rattle.shells.specs.Arrays.{Holds}
 use Rattle.level.specs.Entries.{members}
 use Rattle.level.proofs.Entries.{members-few, members-more, members-same}
 use Rattle.level.proofs.listing.count_members.Statement.{statement}

@@ -3,7 +3,7 @@ use Prim.Native.Nat.{_≤_}
 use native.Mathlib.Omega.{arith}
 use lib.ListN.{length}
 use Rattle.table.specs.Table.{vertices}
-use Rattle.level.specs.Input.{graphOf, anchoredBy}
+use Rattle.shells.specs.Input.{graphOf, anchoredBy}
 use Rattle.level.proofs.Entries.{entries-few, listed-count, lists}
 use Rattle.level.proofs.listing.write_list.Statement.{statement}
 use Rattle.level.proofs.listing.write_list.Tie as tie

@@ -1,8 +1,8 @@
 -- `sheet::check_sheet` meets its contract. Assumes nothing.
 use mathlib.Core.Path.{sym, _∙_}
 use borrow.Author.Needs.{needs}
+use Rattle.shells.proofs.Laws.{admitted}
 use Rattle.level.specs.SheetCheck.{checkSheetOf}
-use Rattle.level.proofs.Laws.{admitted}
 use Rattle.level.proofs.sheet.check_sheet.Statement.{statement}
 use Rattle.level.proofs.sheet.check_sheet.Tie as tie
 

@@ -13,7 +13,7 @@ use Rattle.finite.proofs.Tests.{not-leb}
 use Rattle.table.specs.Table.{neighbors}
 use Rattle.anchored.specs.Graph.{Graph}
 use Rattle.anchored.specs.Sheet.{support, misplaced, tooHigh, tooLow, tooLate, fits}
-use Rattle.level.specs.Input.{graphOf, anchoredBy}
+use Rattle.shells.specs.Input.{graphOf, anchoredBy}
 use Rattle.level.specs.SheetCheck.{HasRow, standsAt}
 use Rattle.level.proofs.sheet.fits_at.Statement.{statement}
 use Rattle.level.proofs.sheet.fits_at.Tie as tie

@@ -1,8 +1,8 @@
 -- `work::admit_slices` meets its contract. Assumes nothing.
 use mathlib.Core.Path.{_≡_, sym, _∙_}
 use Rattle.table.specs.declared.Checked.the-variants.{Sound}
-use Rattle.level.specs.Input.{admitOf}
-use Rattle.level.proofs.Laws.{admitted}
+use Rattle.shells.specs.Input.{admitOf}
+use Rattle.shells.proofs.Laws.{admitted}
 use Rattle.level.proofs.Answers.{work-refused, work-lent}
 use borrow.Author.Needs.{needs}
 use Rattle.level.proofs.work.admit_slices.Statement.{statement}

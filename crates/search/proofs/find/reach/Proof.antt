@@ -9,7 +9,7 @@ use Rattle.finite.specs.Count.{In}
 use Rattle.finite.proofs.Count.{in-at}
 use Rattle.table.specs.Table.{vertices}
 use Rattle.table.specs.Table.{neighbors as neighborsOf}
-use Rattle.level.specs.Input.{graphOf, anchoredBy}
+use Rattle.shells.specs.Input.{graphOf, anchoredBy}
 use Rattle.search.specs.Searching.{stepsOf, Queued}
 use Rattle.search.proofs.Reaching.{queue-length, queue-within, queue-grows, Reaching, reach-first, reach-next, reach-end}
 use Rattle.search.proofs.find.reach.Statement.{statement}

@@ -5,7 +5,7 @@ use native.Mathlib.Omega.{arith}
 use lib.ListN.{getD}
 use Rattle.table.specs.Table.{vertices}
 use Rattle.anchored.specs.Followers.{followers}
-use Rattle.level.specs.Input.{graphOf, anchoredBy}
+use Rattle.shells.specs.Input.{graphOf, anchoredBy}
 use Rattle.search.specs.Searching.{Sheet, marked, state}
 use Rattle.search.proofs.Reaching.{queue-start}
 use Rattle.search.proofs.Remaining.{reached-is, found-marks, found-counts}

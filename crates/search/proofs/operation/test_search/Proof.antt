@@ -1,8 +1,8 @@
 -- `operation::test_search` meets its contract. Assumes nothing.
 use mathlib.Core.Path.{_≡_, sym, _∙_}
 use Rattle.table.specs.declared.Checked.the-variants.{Sound}
-use Rattle.level.specs.Input.{admitOf}
-use Rattle.level.proofs.Laws.{admitted}
+use Rattle.shells.specs.Input.{admitOf}
+use Rattle.shells.proofs.Laws.{admitted}
 use Rattle.search.proofs.Answers.{search-refused, search-room, search-start}
 use borrow.Author.Needs.{needs}
 use Rattle.search.proofs.operation.test_search.Statement.{statement}

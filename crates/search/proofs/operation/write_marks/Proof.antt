@@ -2,7 +2,7 @@
 use mathlib.Core.Path.{ap₂}
 use native.Mathlib.Omega.{arith}
 use Rattle.search.specs.declared.operation.Searched.the-variants.{Found}
-use Rattle.level.proofs.Arrays.{copied}
+use Rattle.shells.proofs.Arrays.{copied}
 use Rattle.search.proofs.operation.write_marks.Statement.{statement}
 use Rattle.search.proofs.operation.write_marks.Tie as tie
 

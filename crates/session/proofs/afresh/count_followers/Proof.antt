@@ -2,7 +2,7 @@
 use native.Mathlib.Omega.{arith}
 use borrow.Author.Tests.{eq-eqb, ne-eqb}
 use Rattle.anchored.specs.Followers.{followerCount}
-use Rattle.level.specs.Input.{graphOf, anchoredBy}
+use Rattle.shells.specs.Input.{graphOf, anchoredBy}
 use Rattle.session.proofs.Steps.{followers-le}
 use borrow.Author.Needs.{needs}
 use Rattle.session.proofs.afresh.count_followers.Statement.{statement}

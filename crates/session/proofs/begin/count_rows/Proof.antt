@@ -5,9 +5,9 @@ use native.Mathlib.Omega.{arith}
 use lib.ListN.{length, length-set}
 use Rattle.table.specs.Table.{vertices}
 use Rattle.anchored.specs.Followers.{followerCount}
-use Rattle.level.specs.Input.{graphOf, anchoredBy}
-use Rattle.level.specs.Arrays.{Holds}
-use Rattle.level.proofs.Arrays.{holds-more}
+use Rattle.shells.specs.Input.{graphOf, anchoredBy}
+use Rattle.shells.specs.Arrays.{Holds}
+use Rattle.shells.proofs.Arrays.{holds-more}
 use Rattle.session.proofs.begin.count_rows.Statement.{statement}
 use Rattle.session.proofs.begin.count_rows.Tie as tie
 use borrow.Author.Needs.{needs}

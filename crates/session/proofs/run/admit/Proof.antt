@@ -3,8 +3,8 @@ use mathlib.Core.Path.{_≡_, sym, _∙_}
 use mathlib.Core.Bool.{false, true}
 use borrow.Author.Tests.{not-true, not-false}
 use Rattle.table.specs.declared.Checked.the-variants.{Sound}
-use Rattle.level.specs.Input.{admitOf}
-use Rattle.level.proofs.Laws.{admitted}
+use Rattle.shells.specs.Input.{admitOf}
+use Rattle.shells.proofs.Laws.{admitted}
 use Rattle.session.proofs.Serving.{run-refused, run-many, run-lent}
 use borrow.Author.Needs.{needs}
 use Rattle.session.proofs.run.admit.Statement.{statement}

@@ -3,8 +3,8 @@ use native.Mathlib.Omega.{arith}
 use mathlib.Core.Bool.{not}
 use lib.Dec.{T}
 use Rattle.table.specs.Table.{vertices}
-use Rattle.level.specs.Input.{anchoredBy}
-use Rattle.level.proofs.Laws.{byte-free}
+use Rattle.shells.specs.Input.{anchoredBy}
+use Rattle.shells.proofs.Laws.{byte-free}
 use Rattle.change.proofs.Laws.{numbered}
 use Rattle.session.proofs.Steps.{admitted-set, right-after, stands-after, row-counted, redone-le}
 use Rattle.session.proofs.step.accept.Statement.{statement}

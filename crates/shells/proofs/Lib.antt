@@ -1,0 +1,5 @@
+pub mod Laws
+pub mod Arrays
+pub mod Peeling
+pub mod Steps
+pub mod Flooding

@@ -1,0 +1,4 @@
+pub mod Input
+pub mod Arrays
+pub mod Peeling
+pub mod Flooding
