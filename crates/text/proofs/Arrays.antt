@@ -18,8 +18,8 @@ use Rattle.finite.proofs.Stores.{sets-front}
 use Rattle.finite.proofs.Tests.{and-l, and-r, eqb-sym}
 use Rattle.text.specs.List.{firstBeyond, anchor}
 use Rattle.text.specs.Text.{Lists, startsFrom, readingOf, riderLinesRead, startsRead, linksRead}
-use Rattle.text.specs.declared.number.Cursor.{Cursor}
-use Rattle.text.specs.declared.form.Next.{Next}
+use Rattle.reader.specs.declared.number.Cursor.{Cursor}
+use Rattle.reader.specs.declared.form.Next.{Next}
 use Rattle.text.specs.declared.read.Summary.{Summary}
 use Rattle.text.specs.declared.read.Reading.{Reading}
 use Rattle.text.proofs.Texts.{length-starts, riders-read, whole-parts}

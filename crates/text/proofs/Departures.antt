@@ -15,14 +15,14 @@ use Rattle.finite.specs.Search.{ascending}
 use Rattle.finite.proofs.Tests.{of-true}
 use Rattle.finite.proofs.Count.{in-append, flatten-append}
 use Rattle.finite.proofs.Search.{ascending-scan}
-use Rattle.text.specs.Form.{onNext}
+use Rattle.reader.specs.Form.{onNext}
 use Rattle.text.specs.List.{Numbers}
 use Rattle.text.specs.Line.{ridersAt, riderAt, retainedAt, roundsAt}
 use Rattle.text.specs.Text.{Lists, moreLists, riderLinesFrom, riderLinesAt, readingOf}
 use Rattle.text.specs.Spelling.{ridersLine, riderLine, retainedLine, roundsLine, riderLines, Content, linesOf, WellFormed}
-use Rattle.text.specs.declared.number.Cursor.{Cursor}
-use Rattle.text.specs.declared.number.Number.{Number}
-use Rattle.text.specs.declared.form.Next.{Next}
+use Rattle.reader.specs.declared.number.Cursor.{Cursor}
+use Rattle.reader.specs.declared.number.Number.{Number}
+use Rattle.reader.specs.declared.form.Next.{Next}
 use Rattle.text.specs.declared.read.Reading.{Reading}
 use Rattle.text.proofs.Texts.{Outcome, no-riders, no-rider, no-retained, no-rounds, extra, whole, outcome}
 use Rattle.text.proofs.Accepted.{Small, riders-text, rider-text, rider-lines-text, retained-text, rounds-text, before, riders-spelled, rider-lines-spelled, retained-spelled, rounds-spelled}

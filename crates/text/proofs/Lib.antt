@@ -1,6 +1,3 @@
-pub mod Numbers
-pub mod Readers
-pub mod Forms
 pub mod Lists
 pub mod Lines
 pub mod Texts

@@ -10,18 +10,18 @@ use lib.Dec.{eqb}
 use borrow.Author.Tests.{eqb-true, eq-eqb, ne-eqb}
 use Rattle.finite.specs.Bytes.{bytes}
 use Rattle.finite.specs.Search.{ascending}
-use Rattle.text.specs.Number.{cursor, onNumber}
-use Rattle.text.specs.Form.{skipAt, onNext, formAt}
+use Rattle.reader.specs.Number.{cursor, onNumber}
+use Rattle.reader.specs.Form.{skipAt, onNext, formAt}
 use Rattle.text.specs.List.{Numbers, none, listAt, listedOf, firstBeyond, ordered, retainedOf, anchor}
 use Rattle.text.specs.Line.{closed, riderAt, retainedAt, numberOfForm, keptForm, keptList}
-use Rattle.text.specs.declared.number.Cursor.{Cursor}
-use Rattle.text.specs.declared.number.Number.{Number}
-use Rattle.text.specs.declared.form.Next.{Next}
+use Rattle.reader.specs.declared.number.Cursor.{Cursor}
+use Rattle.reader.specs.declared.number.Number.{Number}
+use Rattle.reader.specs.declared.form.Next.{Next}
 use Rattle.text.specs.declared.list.Listed.{Listed}
 use Rattle.text.specs.declared.line.Form.{Form}
 use Rattle.text.specs.declared.line.Line.{Line}
 use Rattle.text.specs.declared.line.LineRead.{LineRead}
-use Rattle.text.proofs.Forms.{skip-in, form-in}
+use Rattle.reader.proofs.Forms.{skip-in, form-in}
 use Rattle.text.proofs.Lists.{list-long}
 
 -- ---- answers read back

@@ -11,14 +11,14 @@ use lib.Dec.{ltb, leb, eqb}
 use borrow.Author.Tests.{lt-ltb, ltb-true, ltb-false, eqb-true, eq-eqb, ne-eqb}
 use Rattle.finite.specs.Search.{ascending}
 use Rattle.finite.proofs.Search.{scans, ascending-scan}
-use Rattle.text.specs.Number.{cursor, numberAt, onNumber}
-use Rattle.text.specs.Form.{onNext}
+use Rattle.reader.specs.Number.{cursor, numberAt, onNumber}
+use Rattle.reader.specs.Form.{onNext}
 use Rattle.text.specs.List.{Numbers, none, more, listFrom, listAt, listedOf, firstBeyond, orBeyond, retainedOf, anchor}
-use Rattle.text.specs.declared.number.Cursor.{Cursor}
-use Rattle.text.specs.declared.number.Number.{Number}
-use Rattle.text.specs.declared.form.Next.{Next}
+use Rattle.reader.specs.declared.number.Cursor.{Cursor}
+use Rattle.reader.specs.declared.number.Number.{Number}
+use Rattle.reader.specs.declared.form.Next.{Next}
 use Rattle.text.specs.declared.list.Listed.{Listed}
-use Rattle.text.proofs.Numbers.{number-small, number-next}
+use Rattle.reader.proofs.Numbers.{number-small, number-next}
 
 -- ---- the ways on from a place
 

@@ -14,15 +14,15 @@ use borrow.Author.Tests.{ltb-true, ltb-false, eqb-true, eqb-false, not-true, lt-
 use Rattle.finite.specs.Bytes.{decimal}
 use Rattle.finite.specs.Count.{In}
 use Rattle.finite.proofs.Bytes.{decimal-one, decimal-more}
-use Rattle.text.specs.Number.{cursor, digitOf, digits, value, unpadded, numberOf, numberAt}
-use Rattle.text.specs.Form.{begins, skipAt, formAt}
+use Rattle.reader.specs.Number.{cursor, digitOf, digits, value, unpadded, numberOf, numberAt}
+use Rattle.reader.specs.Form.{begins, skipAt, formAt}
 use Rattle.text.specs.List.{more, listAt}
 use Rattle.text.specs.Spelling.{spelledList}
-use Rattle.text.specs.declared.number.Cursor.{Cursor}
-use Rattle.text.specs.declared.number.Number.{Number}
-use Rattle.text.specs.declared.form.Next.{Next}
-use Rattle.text.proofs.Numbers.{number-digits, number-small}
-use Rattle.text.proofs.Forms.{skip-found, form-parts}
+use Rattle.reader.specs.declared.number.Cursor.{Cursor}
+use Rattle.reader.specs.declared.number.Number.{Number}
+use Rattle.reader.specs.declared.form.Next.{Next}
+use Rattle.reader.proofs.Numbers.{number-digits, number-small}
+use Rattle.reader.proofs.Forms.{skip-found, form-parts}
 use Rattle.text.proofs.Lists.{space-in, list-end, list-more, list-ind}
 
 -- ---- decimals

@@ -10,14 +10,14 @@ use lib.Seq.{sets, length-sets}
 use lib.Dec.{eqb}
 use borrow.Author.Tests.{eqb-true, eqb-false, eq-eqb, ne-eqb}
 use Rattle.finite.proofs.Stores.{sets-append}
-use Rattle.text.specs.Number.{cursor}
-use Rattle.text.specs.Form.{onNext}
+use Rattle.reader.specs.Number.{cursor}
+use Rattle.reader.specs.Form.{onNext}
 use Rattle.text.specs.List.{Numbers, none, firstBeyond, anchor}
 use Rattle.text.specs.Line.{ridersAt, riderAt, retainedAt, roundsAt, numberOfForm, keptForm, keptList}
 use Rattle.text.specs.Text.{Lists, moreLists, riderLinesFrom, riderLinesAt, startsFrom, startsOf, riderLinesOf, restOf, readingOf, riderLinesRead, retainedLineRead, startsRead, linksRead, retainedRead}
-use Rattle.text.specs.declared.number.Cursor.{Cursor}
-use Rattle.text.specs.declared.number.Number.{Number}
-use Rattle.text.specs.declared.form.Next.{Next}
+use Rattle.reader.specs.declared.number.Cursor.{Cursor}
+use Rattle.reader.specs.declared.number.Number.{Number}
+use Rattle.reader.specs.declared.form.Next.{Next}
 use Rattle.text.specs.declared.line.Form.{Form}
 use Rattle.text.specs.declared.line.Line.{Line}
 use Rattle.text.specs.declared.line.LineRead.{LineRead}

@@ -6,8 +6,8 @@ use Prim.Native.String.{String}
 use Rattle.finite.specs.Bytes.{bytes, decimalFrom, decimal}
 use Rattle.finite.specs.Count.{tabulate, below}
 use Rattle.finite.specs.Search.{all, ascending}
-use Rattle.text.specs.Number.{digits, numberOf}
-use Rattle.text.specs.Form.{begins, formAt}
+use Rattle.reader.specs.Number.{digits, numberOf}
+use Rattle.reader.specs.Form.{begins, formAt}
 use Rattle.text.specs.List.{listFrom, listAt}
 use Rattle.text.specs.Line.{riderAt, retainedAt}
 use Rattle.text.specs.Text.{riderLinesFrom, startsFrom, restOf, readingOf, riderLinesRead, retainedLineRead, startsRead, linksRead, retainedRead}

@@ -1,5 +1,3 @@
-pub mod Number
-pub mod Form
 pub mod List
 pub mod Line
 pub mod Text

@@ -4,11 +4,11 @@ use mathlib.Core.List.{List}
 use Prim.Native.Nat.{ℕ}
 use lib.Dec.{eqb}
 use Rattle.finite.specs.Bytes.{bytes}
-use Rattle.text.specs.Number.{cursor, onNumber}
-use Rattle.text.specs.Form.{skipAt, onNext, formAt}
+use Rattle.reader.specs.Number.{cursor, onNumber}
+use Rattle.reader.specs.Form.{skipAt, onNext, formAt}
 use Rattle.text.specs.List.{Numbers, none, listAt, ordered}
-use Rattle.text.specs.declared.number.Number.{Number}
-use Rattle.text.specs.declared.form.Next.{Next}
+use Rattle.reader.specs.declared.number.Number.{Number}
+use Rattle.reader.specs.declared.form.Next.{Next}
 use Rattle.text.specs.declared.line.Form.{Form}
 use Rattle.text.specs.declared.line.LineRead.{LineRead}
 

@@ -5,9 +5,9 @@ use Prim.Native.Nat.{ℕ, zero, suc, _+_, _-_}
 use lib.ListN.{length, getD, set}
 use lib.Dec.{ltb, leb, eqb}
 use Rattle.finite.specs.Search.{ascending}
-use Rattle.text.specs.Number.{cursor, numberAt, onNumber}
-use Rattle.text.specs.Form.{onNext}
-use Rattle.text.specs.declared.form.Next.{Next}
+use Rattle.reader.specs.Number.{cursor, numberAt, onNumber}
+use Rattle.reader.specs.Form.{onNext}
+use Rattle.reader.specs.declared.form.Next.{Next}
 use Rattle.text.specs.declared.list.Listed.{Listed}
 
 -- numbers read, and where the text goes on behind them

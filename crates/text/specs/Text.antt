@@ -4,11 +4,11 @@ use mathlib.Core.List.{List, [], _∷_, _++_, flatten}
 use Prim.Native.Nat.{ℕ, zero, suc, _+_}
 use lib.ListN.{length}
 use lib.Dec.{eqb}
-use Rattle.text.specs.Number.{cursor, onNumber}
-use Rattle.text.specs.Form.{onNext}
+use Rattle.reader.specs.Number.{cursor, onNumber}
+use Rattle.reader.specs.Form.{onNext}
 use Rattle.text.specs.List.{Numbers, none, firstBeyond}
 use Rattle.text.specs.Line.{ridersAt, riderAt, retainedAt, roundsAt}
-use Rattle.text.specs.declared.form.Next.{Next}
+use Rattle.reader.specs.declared.form.Next.{Next}
 use Rattle.text.specs.declared.read.RiderLines.{RiderLines}
 use Rattle.text.specs.declared.read.Reading.{Reading}
 

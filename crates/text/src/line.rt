@@ -6,14 +6,14 @@ ghost use lib.Seq.{sets};
 ghost use Rattle.text.specs.List.{firstBeyond, anchor};
 ghost use Rattle.text.specs.Line.{ridersAt, riderAt, retainedAt, roundsAt, numberOfForm, keptForm, keptList};
 ghost use Rattle.text.specs.declared.line.Form.{Form};
-use crate::form::Next;
-use crate::form::skip;
-use crate::form::take_form;
 use crate::list::Listed;
 use crate::list::take_neighbors;
 use crate::list::take_retained;
-use crate::number::Cursor;
-use crate::number::Number;
+use reader::form::Next;
+use reader::form::skip;
+use reader::form::take_form;
+use reader::number::Cursor;
+use reader::number::Number;
 
 // What kind of form a line has, with that form's single number.
 pub enum Form {

@@ -6,10 +6,10 @@ ghost use lib.ListN.{set};
 ghost use lib.Seq.{sets};
 ghost use lib.Dec.{leb};
 ghost use Rattle.text.specs.List.{listAt, listedOf, orBeyond, retainedOf, anchor as anchorOf};
-use crate::number::Cursor;
-use crate::number::Number;
-use crate::reader::byte_at;
-use crate::reader::take_number;
+use reader::held::byte_at;
+use reader::held::take_number;
+use reader::number::Cursor;
+use reader::number::Number;
 
 // Stands where there is no number of n or more: above every number.
 pub const NONE: usize = 65536;

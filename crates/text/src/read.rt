@@ -14,7 +14,7 @@ use crate::line::rider_line;
 use crate::line::riders_line;
 use crate::line::rounds_line;
 use crate::list::store;
-use crate::number::Cursor;
+use reader::number::Cursor;
 
 // All the riders' lines: the number of links and the cursor after them, or the first line that departs.
 enum RiderLines {

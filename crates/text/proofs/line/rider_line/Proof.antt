@@ -3,9 +3,9 @@ use mathlib.Core.Path.{_≡_, sym, _∙_}
 use native.Mathlib.Omega.{arith}
 use borrow.Author.Needs.{needs}
 use Rattle.finite.specs.Bytes.{bytes}
-use Rattle.text.specs.Form.{formAt}
-use Rattle.text.specs.declared.number.Number.{Number}
-use Rattle.text.proofs.Forms.{form-in}
+use Rattle.reader.specs.Form.{formAt}
+use Rattle.reader.specs.declared.number.Number.{Number}
+use Rattle.reader.proofs.Forms.{form-in}
 use Rattle.text.proofs.Lines.{rider-head, rider-with, rider-departs, rider-other, rider-no-list, rider-no-tail, rider-whole}
 use Rattle.text.proofs.line.rider_line.Statement.{statement}
 use Rattle.text.proofs.line.rider_line.Tie as tie

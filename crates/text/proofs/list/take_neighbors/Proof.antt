@@ -4,7 +4,7 @@ use Prim.Native.Nat.{_+_, _-_, _<_}
 use native.Mathlib.Omega.{arith}
 use lib.ListN.{length}
 use borrow.Author.Needs.{needs}
-use Rattle.text.proofs.Numbers.{number-next}
+use Rattle.reader.proofs.Numbers.{number-next}
 use Rattle.text.proofs.Lists.{space-in, Linking, linking-first, linking-more, linking-departs, linking-done}
 use Rattle.text.proofs.list.take_neighbors.Statement.{statement}
 use Rattle.text.proofs.list.take_neighbors.Tie as tie

@@ -4,7 +4,7 @@ use Prim.Native.Nat.{_+_, _-_, _<_}
 use native.Mathlib.Omega.{arith}
 use lib.ListN.{length}
 use borrow.Author.Needs.{needs}
-use Rattle.text.proofs.Numbers.{number-next}
+use Rattle.reader.proofs.Numbers.{number-next}
 use Rattle.text.proofs.Lists.{space-in, Anchoring, anchoring-first, anchoring-more, anchoring-departs, anchoring-done, anchoring-unsorted}
 use Rattle.text.proofs.list.take_retained.Statement.{statement}
 use Rattle.text.proofs.list.take_retained.Tie as tie

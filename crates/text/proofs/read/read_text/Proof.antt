@@ -2,7 +2,7 @@
 use mathlib.Core.Path.{sym, _∙_}
 use borrow.Author.Needs.{needs}
 use Rattle.finite.specs.Bytes.{bytes}
-use Rattle.text.proofs.Forms.{form-in}
+use Rattle.reader.proofs.Forms.{form-in}
 use Rattle.text.proofs.Texts.{first-read, text-departs, text-lost, text-whole}
 use Rattle.text.proofs.read.read_text.Statement.{statement}
 use Rattle.text.proofs.read.read_text.Tie as tie
