@@ -9,7 +9,8 @@ ghost use Rattle.anchored.specs.Component.{component as componentOf};
 ghost use Rattle.anchored.specs.Followers.{followerCount};
 ghost use Rattle.shells.specs.Input.{graphOf};
 ghost use Rattle.level.specs.Answers.{written};
-ghost use Rattle.session.specs.Run.{runOf, sessionOf, rowAt};
+ghost use Rattle.step.specs.Rows.{sessionOf};
+ghost use Rattle.session.specs.Run.{runOf, rowAt};
 ghost use Rattle.planner_c.specs.Answers.{checkedAs};
 use super::numbers::Answer;
 

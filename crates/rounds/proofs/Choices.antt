@@ -15,7 +15,7 @@ use Rattle.table.specs.Table.{vertices}
 use Rattle.anchored.specs.Followers.{followers, followerCount, best, choice}
 use Rattle.anchored.proofs.Choice.{best-i, best-free, best-greatest}
 use Rattle.shells.specs.Input.{graphOf, anchoredBy}
-use Rattle.session.specs.Record.{Right}
+use Rattle.step.specs.Record.{Right}
 use Rattle.rounds.specs.Rounds.{bestBy, choiceBy}
 
 module _ (n : ℕ) (a fol : List ℕ) where

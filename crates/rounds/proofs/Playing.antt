@@ -17,10 +17,9 @@ use Rattle.anchored.specs.Session.{Plain, turn, rowOf, after}
 use Rattle.anchored.proofs.Choice.{choice-best, best-free}
 use Rattle.shells.specs.Input.{graphOf, anchoredBy}
 use Rattle.shells.specs.Arrays.{Holds}
-use Rattle.session.specs.Record.{Right, plainOf, rowAs}
-use Rattle.session.specs.Rows.{Stands}
-use Rattle.session.specs.Run.{sessionOf}
-use Rattle.session.proofs.Steps.{stands-turn, refused-vertex}
+use Rattle.step.specs.Record.{Right, plainOf, rowAs}
+use Rattle.step.specs.Rows.{Stands, sessionOf}
+use Rattle.step.proofs.Steps.{stands-turn, refused-vertex}
 use Rattle.sheet.specs.Written.{Written}
 use Rattle.sheet.specs.Line.{Round, liftedBy, lineOf, sheetFrom, sheetOf}
 use Rattle.sheet.specs.declared.line.Chosen.the-variants.{Vertex, Nobody}

@@ -5,12 +5,12 @@ ghost use Rattle.table.specs.Table.{vertices};
 ghost use Rattle.anchored.specs.Followers.{choice};
 ghost use Rattle.anchored.specs.Session.{turn};
 ghost use Rattle.shells.specs.Input.{graphOf, anchoredBy};
-ghost use Rattle.session.specs.Record.{Right, plainOf};
-ghost use Rattle.session.specs.Rows.{Stands};
+ghost use Rattle.step.specs.Record.{Right, plainOf};
+ghost use Rattle.step.specs.Rows.{Stands};
 ghost use Rattle.sheet.specs.Written.{Written};
 ghost use Rattle.rounds.specs.Rounds.{shown, roundOn};
-use session::record::Record;
 use sheet::line::Chosen;
+use step::record::Record;
 
 // What a round leaves: the record, and the place behind its line.
 pub struct Played {
@@ -49,7 +49,7 @@ pub fn play(
     let level = old.level;
     let layer = old.layer;
     search::search(starts, links, &anchored, &level, &layer, x, &mut marks);
-    let stepped = session::step::step(starts, links, old, x, round);
+    let stepped = step::step::step(starts, links, old, x, round);
     let row = stepped.row;
     let end = sheet::line::put_line(
         out,

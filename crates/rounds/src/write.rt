@@ -21,7 +21,7 @@ pub fn write_rounds(
     requires { ⌜ rounds * (48 + vertices (now starts)) ≤ length (now out) ⌝ }
     ensures { λ r. ⌜ Written (now (out .entry)) 0 (sheetOf (vertices (now (starts .entry))) (roundsOf (graphOf (now (starts .entry)) (now (links .entry))) (anchoredBy (now (given .entry))) rounds)) (now (out .exit)) r ⌝ }
 {
-    let mut kept = session::begin::begin(starts, links, given);
+    let mut kept = step::begin::begin(starts, links, given);
     let mut at: usize = 0;
     let mut i: u16 = 0;
     while i < rounds {

@@ -23,10 +23,10 @@ use Rattle.shells.specs.Input.{graphOf, admitOf}
 use Rattle.shells.specs.Arrays.{Holds}
 use Rattle.shells.proofs.Laws.{went-through, admitted}
 use Rattle.level.specs.Answers.{threeOf}
-use Rattle.session.specs.Record.{Right, plainOf, rowAs}
-use Rattle.session.specs.Rows.{Stands}
-use Rattle.session.specs.Run.{runOf, sessionOf, rowAt, Ready}
-use Rattle.session.proofs.Steps.{stands-row, stands-more}
+use Rattle.step.specs.Record.{Right, plainOf, rowAs}
+use Rattle.step.specs.Rows.{Stands, sessionOf}
+use Rattle.step.proofs.Steps.{stands-row, stands-more}
+use Rattle.session.specs.Run.{runOf, rowAt, Ready}
 
 -- a slice of one number for each request has those of the first i, and after them what it had
 pub record Filled (f : ℕ → ℕ) (old new : List ℕ) (i : ℕ) : Type 0 where

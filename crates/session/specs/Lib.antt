@@ -1,3 +1,1 @@
-pub mod Record
-pub mod Rows
 pub mod Run

@@ -8,9 +8,10 @@ use lib.Dec.{ltb}
 use Rattle.table.specs.Table.{vertices, refused}
 use Rattle.table.specs.declared.Checked.{Checked}
 use Rattle.table.specs.declared.Checked.the-variants.{Sound, Refused}
-use Rattle.anchored.specs.Session.{Plain, Row, rowOf, after}
-use Rattle.shells.specs.Input.{graphOf, anchoredBy, admitOf, Admitted}
+use Rattle.anchored.specs.Session.{Row, rowOf}
+use Rattle.shells.specs.Input.{graphOf, admitOf, Admitted}
 use Rattle.level.specs.Answers.{threeOf}
+use Rattle.step.specs.Rows.{sessionOf}
 
 -- 1 to 10, then 11 for more than 4,096 requests, then 12 for a slice not of its length: six of n, three of m, the number of requests
 unfoldable pub runOf : List ℕ → List ℕ → List ℕ → ℕ → ℕ → ℕ → ℕ → ℕ → ℕ → ℕ → ℕ → ℕ → ℕ → Checked
@@ -35,10 +36,6 @@ pub record Ready (s l a : List ℕ) (m anchored levels layers components followe
   pub lifted-long : lifted ≡ m
   pub redone-long : redone ≡ m
 
--- the plain session of a table, its given bytes and its requests, after the first i of them
-abbrev pub sessionOf : List ℕ → List ℕ → List ℕ → List ℕ → ℕ → Plain
-sessionOf s l given requests i = after (graphOf s l) (anchoredBy given) requests i
-
--- the three numbers of request i in it
+-- the three numbers of request i in the plain session
 abbrev pub rowAt : List ℕ → List ℕ → List ℕ → List ℕ → ℕ → Row
 rowAt s l given requests i = rowOf (graphOf s l) (sessionOf s l given requests i) (getD requests i 0)

@@ -3,7 +3,7 @@ ghost use mathlib.Core.Path.{_≡_};
 ghost use Prim.Native.Nat.{_≤_};
 ghost use lib.ListN.{length, getD};
 ghost use Rattle.finite.specs.Count.{tabulate};
-use super::record::Record;
+use step::record::Record;
 
 // Copies the sheet of a record out.
 pub fn copy_sheet(kept: Record, levels: &mut [u16], layers: &mut [u16], components: &mut [u16])

@@ -10,10 +10,10 @@ ghost use Rattle.anchored.specs.Component.{component as componentOf};
 ghost use Rattle.anchored.specs.Followers.{followerCount};
 ghost use Rattle.shells.specs.Input.{graphOf, Admitted};
 ghost use Rattle.level.specs.Answers.{written};
-ghost use Rattle.session.specs.Record.{Right};
-ghost use Rattle.session.specs.Rows.{Stands};
-ghost use Rattle.session.specs.Run.{runOf, sessionOf, rowAt, Ready};
-use super::record::Record;
+ghost use Rattle.step.specs.Record.{Right};
+ghost use Rattle.step.specs.Rows.{Stands, sessionOf};
+ghost use Rattle.session.specs.Run.{runOf, rowAt, Ready};
+use step::record::Record;
 
 // The record after all requests, and the three numbers of each.
 fn serve(
@@ -37,10 +37,10 @@ fn serve(
     ensures lifted { λ _. ⌜ now (lifted .exit) ≡ tabulate (λ i. rowAt (now (starts .entry)) (now (links .entry)) (now (given .entry)) (now (requests .entry)) i .lifted) (length (now (requests .entry))) ⌝ }
     ensures redone { λ _. ⌜ now (redone .exit) ≡ tabulate (λ i. rowAt (now (starts .entry)) (now (links .entry)) (now (given .entry)) (now (requests .entry)) i .redone) (length (now (requests .entry))) ⌝ }
 {
-    let mut kept = super::begin::begin(starts, links, given);
+    let mut kept = step::begin::begin(starts, links, given);
     let mut i: usize = 0;
     while i < requests.len() {
-        let stepped = super::step::step(starts, links, kept, requests[i] as usize, i as u16 + 1);
+        let stepped = step::step::step(starts, links, kept, requests[i] as usize, i as u16 + 1);
         kept = stepped.record;
         let row = stepped.row;
         status[i] = row.status;

@@ -4,8 +4,7 @@ use Prim.Native.Nat.{_-_, _≤_}
 use native.Mathlib.Omega.{arith}
 use lib.ListN.{length}
 use Rattle.table.specs.Table.{vertices}
-use Rattle.session.specs.Rows.{Stands}
-use Rattle.session.specs.Run.{sessionOf}
+use Rattle.step.specs.Rows.{Stands, sessionOf}
 use Rattle.session.proofs.Serving.{Serving, serving-none, serving-more, filled-all}
 use Rattle.session.proofs.run.serve.Statement.{statement}
 use Rattle.session.proofs.run.serve.Tie as tie

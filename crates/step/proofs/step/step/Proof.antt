@@ -2,10 +2,10 @@
 use Prim.Native.Nat.{_≤_, _<_}
 use native.Mathlib.Omega.{arith}
 use Rattle.table.specs.Table.{vertices}
-use Rattle.session.proofs.Steps.{refused-vertex, refused-anchored}
+use Rattle.step.proofs.Steps.{refused-vertex, refused-anchored}
 use borrow.Author.Needs.{needs}
-use Rattle.session.proofs.step.step.Statement.{statement}
-use Rattle.session.proofs.step.step.Tie as tie
+use Rattle.step.proofs.step.step.Statement.{statement}
+use Rattle.step.proofs.step.step.Tie as tie
 
 sub-if1 : tie.Need-sub-if1
 sub-if1 c = c .before .before .pre .0 .sheet .admitted .table .framed .some

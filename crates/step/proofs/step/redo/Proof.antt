@@ -4,10 +4,10 @@ use mathlib.Core.Logic.{⊎-elim}
 use Prim.Native.Nat.{_-_, _≤_, _<_}
 use native.Mathlib.Omega.{arith}
 use Rattle.table.specs.Table.{vertices}
-use Rattle.session.specs.Rows.{Redone}
-use Rattle.session.proofs.Steps.{redone-begin, redone-skip, redone-more, recomputed-count}
-use Rattle.session.proofs.step.redo.Statement.{statement}
-use Rattle.session.proofs.step.redo.Tie as tie
+use Rattle.step.specs.Rows.{Redone}
+use Rattle.step.proofs.Steps.{redone-begin, redone-skip, redone-more, recomputed-count}
+use Rattle.step.proofs.step.redo.Statement.{statement}
+use Rattle.step.proofs.step.redo.Tie as tie
 use borrow.Author.Needs.{needs}
 
 abbrev Inv-loop : tie.InvT-loop

@@ -9,9 +9,8 @@ ghost use Rattle.anchored.specs.Core.{layer as layerOf};
 ghost use Rattle.anchored.specs.Followers.{followerCount};
 ghost use Rattle.shells.specs.Input.{graphOf, anchoredBy, Admitted};
 ghost use Rattle.shells.specs.Arrays.{Holds};
-ghost use Rattle.session.specs.Record.{Right};
-ghost use Rattle.session.specs.Rows.{Copied, Stands};
-ghost use Rattle.session.specs.Run.{sessionOf};
+ghost use Rattle.step.specs.Record.{Right};
+ghost use Rattle.step.specs.Rows.{Copied, Stands, sessionOf};
 use super::record::Record;
 
 // The given bytes, with zeros after them.

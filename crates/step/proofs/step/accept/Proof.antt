@@ -6,9 +6,9 @@ use Rattle.table.specs.Table.{vertices}
 use Rattle.shells.specs.Input.{anchoredBy}
 use Rattle.shells.proofs.Laws.{byte-free}
 use Rattle.change.proofs.Laws.{numbered}
-use Rattle.session.proofs.Steps.{admitted-set, right-after, stands-after, row-counted, redone-le}
-use Rattle.session.proofs.step.accept.Statement.{statement}
-use Rattle.session.proofs.step.accept.Tie as tie
+use Rattle.step.proofs.Steps.{admitted-set, right-after, stands-after, row-counted, redone-le}
+use Rattle.step.proofs.step.accept.Statement.{statement}
+use Rattle.step.proofs.step.accept.Tie as tie
 
 -- the place of the call and of the refreshed sheet, seen from the end
 abbrev start : tie.After-redo → tie.Start

@@ -1,7 +1,7 @@
 -- `afresh::refresh` meets its contract. Assumes nothing.
 use borrow.Author.Needs.{needs}
-use Rattle.session.proofs.afresh.refresh.Statement.{statement}
-use Rattle.session.proofs.afresh.refresh.Tie as tie
+use Rattle.step.proofs.afresh.refresh.Statement.{statement}
+use Rattle.step.proofs.afresh.refresh.Tie as tie
 
 fill-requires : tie.Need-fill-requires
 fill-requires c κs = search needs

@@ -8,8 +8,8 @@ use Rattle.anchored.specs.Followers.{followerCount}
 use Rattle.shells.specs.Input.{graphOf, anchoredBy}
 use Rattle.shells.specs.Arrays.{Holds}
 use Rattle.shells.proofs.Arrays.{holds-more}
-use Rattle.session.proofs.begin.count_rows.Statement.{statement}
-use Rattle.session.proofs.begin.count_rows.Tie as tie
+use Rattle.step.proofs.begin.count_rows.Statement.{statement}
+use Rattle.step.proofs.begin.count_rows.Tie as tie
 use borrow.Author.Needs.{needs}
 
 abbrev Inv-loop : tie.InvT-loop

@@ -4,10 +4,10 @@ use mathlib.Core.List.{[]}
 use Prim.Native.Nat.{ℕ}
 use native.Mathlib.Omega.{arith}
 use lib.ListN.{replicate, length-replicate, getD-replicate}
-use Rattle.session.proofs.Steps.{admitted-same, stands-start}
+use Rattle.step.proofs.Steps.{admitted-same, stands-start}
 use borrow.Author.Needs.{needs}
-use Rattle.session.proofs.begin.begin.Statement.{statement}
-use Rattle.session.proofs.begin.begin.Tie as tie
+use Rattle.step.proofs.begin.begin.Statement.{statement}
+use Rattle.step.proofs.begin.begin.Tie as tie
 
 pad-requires : tie.Need-pad-requires
 pad-requires c κs = search needs

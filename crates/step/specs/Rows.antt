@@ -8,7 +8,7 @@ use lib.Dec.{ltb}
 use Rattle.finite.specs.Count.{count, below}
 use Rattle.anchored.specs.Followers.{followers}
 use Rattle.anchored.specs.Step.{recomputed}
-use Rattle.anchored.specs.Session.{Plain}
+use Rattle.anchored.specs.Session.{Plain, after}
 use Rattle.shells.specs.Input.{graphOf, anchoredBy}
 use Rattle.shells.specs.Arrays.{Holds}
 
@@ -34,3 +34,7 @@ pub record Stands (n : ℕ) (a st : List ℕ) (S : Plain) : Type 0 where
   pub anchors : anchoredBy a ≡ S .anchors
   pub stamps : Holds st n (S .stamps)
   pub stamps-long : n ≤ length st
+
+-- the plain session of a table, its given bytes and its requests, after the first i of them
+abbrev pub sessionOf : List ℕ → List ℕ → List ℕ → List ℕ → ℕ → Plain
+sessionOf s l given requests i = after (graphOf s l) (anchoredBy given) requests i

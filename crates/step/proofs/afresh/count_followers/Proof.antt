@@ -3,10 +3,10 @@ use native.Mathlib.Omega.{arith}
 use borrow.Author.Tests.{eq-eqb, ne-eqb}
 use Rattle.anchored.specs.Followers.{followerCount}
 use Rattle.shells.specs.Input.{graphOf, anchoredBy}
-use Rattle.session.proofs.Steps.{followers-le}
+use Rattle.step.proofs.Steps.{followers-le}
 use borrow.Author.Needs.{needs}
-use Rattle.session.proofs.afresh.count_followers.Statement.{statement}
-use Rattle.session.proofs.afresh.count_followers.Tie as tie
+use Rattle.step.proofs.afresh.count_followers.Statement.{statement}
+use Rattle.step.proofs.afresh.count_followers.Tie as tie
 
 element-copy-out-if1 : tie.Need-element-copy-out-if1
 element-copy-out-if1 c = search needs

@@ -24,8 +24,8 @@ use Rattle.shells.specs.Input.{graphOf, anchoredBy, Admitted}
 use Rattle.shells.specs.Arrays.{Holds}
 use Rattle.shells.proofs.Laws.{simple}
 use Rattle.change.specs.Sheet.{Sheet}
-use Rattle.session.specs.Record.{Right, plainOf, rowAs}
-use Rattle.session.specs.Rows.{Renewed, Redone, Stands}
+use Rattle.step.specs.Record.{Right, plainOf, rowAs}
+use Rattle.step.specs.Rows.{Renewed, Redone, Stands}
 
 -- ---- bytes
 

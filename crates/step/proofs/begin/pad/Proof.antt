@@ -6,8 +6,8 @@ use native.Mathlib.Omega.{arith}
 use lib.ListN.{length, drop, getD, length-set, replicate, length-replicate}
 use Rattle.finite.specs.Count.{tabulate}
 use Rattle.finite.proofs.Count.{fill-none, fill-more, copied-in}
-use Rattle.session.proofs.begin.pad.Statement.{statement}
-use Rattle.session.proofs.begin.pad.Tie as tie
+use Rattle.step.proofs.begin.pad.Statement.{statement}
+use Rattle.step.proofs.begin.pad.Tie as tie
 use borrow.Author.Needs.{needs}
 
 abbrev at : List ℕ → ℕ → ℕ
