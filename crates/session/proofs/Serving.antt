@@ -26,7 +26,7 @@ use Rattle.level.specs.Answers.{threeOf}
 use Rattle.step.specs.Record.{Right, plainOf, rowAs}
 use Rattle.step.specs.Rows.{Stands, sessionOf}
 use Rattle.step.proofs.Steps.{stands-row, stands-more}
-use Rattle.session.specs.Run.{runOf, rowAt, Ready}
+use Rattle.session.specs.Run.{Slices, sized, admitRun, runOf, Ready, rowAt}
 
 -- a slice of one number for each request has those of the first i, and after them what it had
 pub record Filled (f : ℕ → ℕ) (old new : List ℕ) (i : ℕ) : Type 0 where
@@ -132,40 +132,47 @@ admitted-bytes s l a e =
     let number = went-on _ _ _ _ (checked .1) in
     eqb-true (length a) (vertices s) (not-false (eqb (length a) (vertices s)) (number .0))
 
-module _ (s l a : List ℕ) (m p q r u v w x y z : ℕ) where
-  abbrev six : Bool
-  six = threeOf (vertices s) p q r && threeOf (vertices s) u v w
-
+module _ (s l a : List ℕ) (m : ℕ) (fits : Bool) where
   -- refusals 1 to 10 are handed on
-  pub run-refused : {refusal : Refusal} → admitOf s l a ≡ Refused refusal → runOf s l a m p q r u v w x y z ≡ Refused refusal
-  unfolding runOf
-  run-refused e = rw (runOf, e)
+  pub run-refused : {refusal : Refusal} → admitOf s l a ≡ Refused refusal → admitRun s l a m fits ≡ Refused refusal
+  unfolding admitRun
+  run-refused e = rw (admitRun, e)
 
   -- then the number of requests decides, and then the lengths
   module _ (admits : admitOf s l a ≡ Sound) where
-    pub run-many : 4096 < m → runOf s l a m p q r u v w x y z ≡ refused 11 0
-    unfolding runOf
-    run-many h = rw (runOf, admits, lt-ltb 4096 m h)
+    pub run-many : 4096 < m → admitRun s l a m fits ≡ refused 11 0
+    unfolding admitRun
+    run-many h = rw (admitRun, admits, lt-ltb 4096 m h)
 
-    pub run-lent : (b : Bool) → m ≤ 4096 → six && threeOf m x y z ≡ b → runOf s l a m p q r u v w x y z ≡ cond b Sound (refused 12 0)
-    unfolding runOf
-    run-lent b h e = rw (runOf, admits, le-ltb 4096 m h, e)
+    pub run-lent : (b : Bool) → m ≤ 4096 → fits ≡ b → admitRun s l a m fits ≡ cond b Sound (refused 12 0)
+    unfolding admitRun
+    run-lent b h e = rw (admitRun, admits, le-ltb 4096 m h, e)
+
+module _ (s l given requests : List ℕ) (x : Slices) where
+  abbrev n : ℕ
+  n = vertices s
+
+  abbrev m : ℕ
+  m = length requests
+
+  abbrev six : Bool
+  six = threeOf n (length (x .anchored)) (length (x .levels)) (length (x .layers)) && threeOf n (length (x .components)) (length (x .followers)) (length (x .stamps))
 
   -- what is not refused is ready to be served
-  pub run-ready : runOf s l a m p q r u v w x y z ≡ Sound → Ready s l a m p q r u v w x y z
-  unfolding runOf
+  pub run-ready : runOf s l given requests x ≡ Sound → Ready s l given requests x
+  unfolding admitRun
   run-ready e =
-      let n = vertices s in
-      let through = went-through (admitOf s l a) (cond (ltb 4096 m) (refused 11 0) (cond (six && threeOf m x y z) Sound (refused 12 0))) e in
-      let few = went-on (ltb 4096 m) 11 0 (cond (six && threeOf m x y z) Sound (refused 12 0)) (through .1) in
-      let lent = passed (six && threeOf m x y z) 12 0 Sound (few .1) .0 in
-      let records = and-l six (threeOf m x y z) lent in
-      let first = three n p q r (and-l (threeOf n p q r) (threeOf n u v w) records) in
-      let second = three n u v w (and-r (threeOf n p q r) (threeOf n u v w) records) in
-      let third = three m x y z (and-r six (threeOf m x y z) lent) in
+      let fits = sized n m x in
+      let through = went-through (admitOf s l given) (cond (ltb 4096 m) (refused 11 0) (cond fits Sound (refused 12 0))) e in
+      let few = went-on (ltb 4096 m) 11 0 (cond fits Sound (refused 12 0)) (through .1) in
+      let lent = passed fits 12 0 Sound (few .1) .0 in
+      let records = and-l six (threeOf m (length (x .status)) (length (x .lifted)) (length (x .redone))) lent in
+      let first = three n _ _ _ (and-l (threeOf n (length (x .anchored)) (length (x .levels)) (length (x .layers))) (threeOf n (length (x .components)) (length (x .followers)) (length (x .stamps))) records) in
+      let second = three n _ _ _ (and-r (threeOf n (length (x .anchored)) (length (x .levels)) (length (x .layers))) (threeOf n (length (x .components)) (length (x .followers)) (length (x .stamps))) records) in
+      let third = three m _ _ _ (and-r six (threeOf m (length (x .status)) (length (x .lifted)) (length (x .redone))) lent) in
       record {
-        admitted = admitted s l a (through .0);
-        bytes = admitted-bytes s l a (through .0);
+        admitted = admitted s l given (through .0);
+        bytes = admitted-bytes s l given (through .0);
         few = ltb-false 4096 m (few .0);
         anchored-long = first .0;
         levels-long = first .1;

@@ -1,18 +1,15 @@
 // A session: the record at the start, each request on what the one before left, and the record at the end.
 ghost use mathlib.Core.Path.{_≡_};
+ghost use mathlib.Core.Bool.{_&&_};
 ghost use Prim.Native.Nat.{_≤_};
 ghost use lib.ListN.{length};
-ghost use Rattle.finite.specs.Count.{bit, tabulate};
+ghost use Rattle.finite.specs.Count.{tabulate};
 ghost use Rattle.table.specs.Table.{vertices};
-ghost use Rattle.anchored.specs.Core.{level as levelOf};
-ghost use Rattle.anchored.specs.Core.{layer as layerOf};
-ghost use Rattle.anchored.specs.Component.{component as componentOf};
-ghost use Rattle.anchored.specs.Followers.{followerCount};
-ghost use Rattle.shells.specs.Input.{graphOf, Admitted};
-ghost use Rattle.level.specs.Answers.{written};
+ghost use Rattle.shells.specs.Input.{Admitted};
+ghost use Rattle.level.specs.Answers.{threeOf};
 ghost use Rattle.step.specs.Record.{Right};
 ghost use Rattle.step.specs.Rows.{Stands, sessionOf};
-ghost use Rattle.session.specs.Run.{runOf, rowAt, Ready};
+ghost use Rattle.session.specs.Run.{slices, admitRun, runOf, Ready, rowAt, ended, left};
 use step::record::Record;
 
 // The record after all requests, and the three numbers of each.
@@ -67,16 +64,8 @@ fn write(
     lifted: &mut [u16],
     redone: &mut [u16],
 )
-    requires { ⌜ Ready (now starts) (now links) (now given) (length (now requests)) (length (now anchored)) (length (now levels)) (length (now layers)) (length (now components)) (length (now followers)) (length (now stamps)) (length (now status)) (length (now lifted)) (length (now redone)) ⌝ }
-    ensures anchored { λ _. ⌜ now (anchored .exit) ≡ tabulate (λ v. bit (sessionOf (now (starts .entry)) (now (links .entry)) (now (given .entry)) (now (requests .entry)) (length (now (requests .entry))) .anchors v)) (vertices (now (starts .entry))) ⌝ }
-    ensures levels { λ _. ⌜ now (levels .exit) ≡ tabulate (levelOf (graphOf (now (starts .entry)) (now (links .entry))) (sessionOf (now (starts .entry)) (now (links .entry)) (now (given .entry)) (now (requests .entry)) (length (now (requests .entry))) .anchors)) (vertices (now (starts .entry))) ⌝ }
-    ensures layers { λ _. ⌜ now (layers .exit) ≡ tabulate (layerOf (graphOf (now (starts .entry)) (now (links .entry))) (sessionOf (now (starts .entry)) (now (links .entry)) (now (given .entry)) (now (requests .entry)) (length (now (requests .entry))) .anchors)) (vertices (now (starts .entry))) ⌝ }
-    ensures components { λ _. ⌜ now (components .exit) ≡ tabulate (componentOf (graphOf (now (starts .entry)) (now (links .entry))) (sessionOf (now (starts .entry)) (now (links .entry)) (now (given .entry)) (now (requests .entry)) (length (now (requests .entry))) .anchors)) (vertices (now (starts .entry))) ⌝ }
-    ensures followers { λ _. ⌜ now (followers .exit) ≡ tabulate (followerCount (graphOf (now (starts .entry)) (now (links .entry))) (sessionOf (now (starts .entry)) (now (links .entry)) (now (given .entry)) (now (requests .entry)) (length (now (requests .entry))) .anchors)) (vertices (now (starts .entry))) ⌝ }
-    ensures stamps { λ _. ⌜ now (stamps .exit) ≡ tabulate (sessionOf (now (starts .entry)) (now (links .entry)) (now (given .entry)) (now (requests .entry)) (length (now (requests .entry))) .stamps) (vertices (now (starts .entry))) ⌝ }
-    ensures status { λ _. ⌜ now (status .exit) ≡ tabulate (λ i. rowAt (now (starts .entry)) (now (links .entry)) (now (given .entry)) (now (requests .entry)) i .status) (length (now (requests .entry))) ⌝ }
-    ensures lifted { λ _. ⌜ now (lifted .exit) ≡ tabulate (λ i. rowAt (now (starts .entry)) (now (links .entry)) (now (given .entry)) (now (requests .entry)) i .lifted) (length (now (requests .entry))) ⌝ }
-    ensures redone { λ _. ⌜ now (redone .exit) ≡ tabulate (λ i. rowAt (now (starts .entry)) (now (links .entry)) (now (given .entry)) (now (requests .entry)) i .redone) (length (now (requests .entry))) ⌝ }
+    requires { ⌜ Ready (now starts) (now links) (now given) (now requests) (slices (now anchored) (now levels) (now layers) (now components) (now followers) (now stamps) (now status) (now lifted) (now redone)) ⌝ }
+    ensures { λ _. ⌜ slices (now (anchored .exit)) (now (levels .exit)) (now (layers .exit)) (now (components .exit)) (now (followers .exit)) (now (stamps .exit)) (now (status .exit)) (now (lifted .exit)) (now (redone .exit)) ≡ ended (now (starts .entry)) (now (links .entry)) (now (given .entry)) (now (requests .entry)) ⌝ }
 {
     let kept = serve(starts, links, given, requests, status, lifted, redone);
     super::lent::copy_sheet(kept, levels, layers, components);
@@ -99,7 +88,7 @@ fn admit(
     lifted: usize,
     redone: usize,
 ) -> table::Checked
-    ensures { λ r. ⌜ r ≡ runOf (now (starts .entry)) (now (links .entry)) (now (given .entry)) count anchored levels layers components followers stamps status lifted redone ⌝ }
+    ensures { λ r. ⌜ r ≡ admitRun (now (starts .entry)) (now (links .entry)) (now (given .entry)) count (threeOf (vertices (now (starts .entry))) anchored levels layers && threeOf (vertices (now (starts .entry))) components followers stamps && threeOf count status lifted redone) ⌝ }
 {
     let admitted = shells::input::admit(starts, links, given);
     match admitted {
@@ -139,16 +128,8 @@ pub fn run(
     lifted: &mut [u16],
     redone: &mut [u16],
 ) -> table::Checked
-    ensures answer { λ r. ⌜ r ≡ runOf (now (starts .entry)) (now (links .entry)) (now (given .entry)) (length (now (requests .entry))) (length (now (anchored .entry))) (length (now (levels .entry))) (length (now (layers .entry))) (length (now (components .entry))) (length (now (followers .entry))) (length (now (stamps .entry))) (length (now (status .entry))) (length (now (lifted .entry))) (length (now (redone .entry))) ⌝ }
-    ensures anchored { λ r. ⌜ now (anchored .exit) ≡ written r (tabulate (λ v. bit (sessionOf (now (starts .entry)) (now (links .entry)) (now (given .entry)) (now (requests .entry)) (length (now (requests .entry))) .anchors v)) (vertices (now (starts .entry)))) (now (anchored .entry)) ⌝ }
-    ensures levels { λ r. ⌜ now (levels .exit) ≡ written r (tabulate (levelOf (graphOf (now (starts .entry)) (now (links .entry))) (sessionOf (now (starts .entry)) (now (links .entry)) (now (given .entry)) (now (requests .entry)) (length (now (requests .entry))) .anchors)) (vertices (now (starts .entry)))) (now (levels .entry)) ⌝ }
-    ensures layers { λ r. ⌜ now (layers .exit) ≡ written r (tabulate (layerOf (graphOf (now (starts .entry)) (now (links .entry))) (sessionOf (now (starts .entry)) (now (links .entry)) (now (given .entry)) (now (requests .entry)) (length (now (requests .entry))) .anchors)) (vertices (now (starts .entry)))) (now (layers .entry)) ⌝ }
-    ensures components { λ r. ⌜ now (components .exit) ≡ written r (tabulate (componentOf (graphOf (now (starts .entry)) (now (links .entry))) (sessionOf (now (starts .entry)) (now (links .entry)) (now (given .entry)) (now (requests .entry)) (length (now (requests .entry))) .anchors)) (vertices (now (starts .entry)))) (now (components .entry)) ⌝ }
-    ensures followers { λ r. ⌜ now (followers .exit) ≡ written r (tabulate (followerCount (graphOf (now (starts .entry)) (now (links .entry))) (sessionOf (now (starts .entry)) (now (links .entry)) (now (given .entry)) (now (requests .entry)) (length (now (requests .entry))) .anchors)) (vertices (now (starts .entry)))) (now (followers .entry)) ⌝ }
-    ensures stamps { λ r. ⌜ now (stamps .exit) ≡ written r (tabulate (sessionOf (now (starts .entry)) (now (links .entry)) (now (given .entry)) (now (requests .entry)) (length (now (requests .entry))) .stamps) (vertices (now (starts .entry)))) (now (stamps .entry)) ⌝ }
-    ensures status { λ r. ⌜ now (status .exit) ≡ written r (tabulate (λ i. rowAt (now (starts .entry)) (now (links .entry)) (now (given .entry)) (now (requests .entry)) i .status) (length (now (requests .entry)))) (now (status .entry)) ⌝ }
-    ensures lifted { λ r. ⌜ now (lifted .exit) ≡ written r (tabulate (λ i. rowAt (now (starts .entry)) (now (links .entry)) (now (given .entry)) (now (requests .entry)) i .lifted) (length (now (requests .entry)))) (now (lifted .entry)) ⌝ }
-    ensures redone { λ r. ⌜ now (redone .exit) ≡ written r (tabulate (λ i. rowAt (now (starts .entry)) (now (links .entry)) (now (given .entry)) (now (requests .entry)) i .redone) (length (now (requests .entry)))) (now (redone .entry)) ⌝ }
+    ensures answer { λ r. ⌜ r ≡ runOf (now (starts .entry)) (now (links .entry)) (now (given .entry)) (now (requests .entry)) (slices (now (anchored .entry)) (now (levels .entry)) (now (layers .entry)) (now (components .entry)) (now (followers .entry)) (now (stamps .entry)) (now (status .entry)) (now (lifted .entry)) (now (redone .entry))) ⌝ }
+    ensures slices { λ r. ⌜ slices (now (anchored .exit)) (now (levels .exit)) (now (layers .exit)) (now (components .exit)) (now (followers .exit)) (now (stamps .exit)) (now (status .exit)) (now (lifted .exit)) (now (redone .exit)) ≡ left r (ended (now (starts .entry)) (now (links .entry)) (now (given .entry)) (now (requests .entry))) (slices (now (anchored .entry)) (now (levels .entry)) (now (layers .entry)) (now (components .entry)) (now (followers .entry)) (now (stamps .entry)) (now (status .entry)) (now (lifted .entry)) (now (redone .entry))) ⌝ }
 {
     let admitted = admit(
         starts,

@@ -33,7 +33,7 @@ refused-requires : tie.Need-refused-requires
 refused-requires c κs = search needs
 
 returns : tie.Need-returns
-returns c = c .refused .ensures ∙ sym (run-many _ _ _ _ _ _ _ _ _ _ _ _ _ (sound (c .before .before)) (c .before .if1 .taken))
+returns c = c .refused .ensures ∙ sym (run-many _ _ _ _ _ (sound (c .before .before)) (c .before .if1 .taken))
 
 are-of-requires : tie.Need-are-of-requires
 are-of-requires c κs = search needs
@@ -44,7 +44,7 @@ refused-requires-2 c κs = search needs
 returns-2 : tie.Need-returns-2
 returns-2 c =
     let first = sym (c .before .before .are-of .ensures) ∙ not-true (c .before .before .are-of .result) (c .before .if2 .taken) in
-    c .refused2 .ensures ∙ sym (run-lent _ _ _ _ _ _ _ _ _ _ _ _ _ (sound (c .before .before .before .before)) false (c .before .before .before .if1 .left) (rw first))
+    c .refused2 .ensures ∙ sym (run-lent _ _ _ _ _ (sound (c .before .before .before .before)) false (c .before .before .before .if1 .left) (rw first))
 
 are-of-requires-2 : tie.Need-are-of-requires-2
 are-of-requires-2 c κs = search needs
@@ -56,7 +56,7 @@ returns-3 : tie.Need-returns-3
 returns-3 c =
     let first = sym (c .before .before .before .before .are-of .ensures) ∙ not-false (c .before .before .before .before .are-of .result) (c .before .before .before .if2 .left) in
     let second = sym (c .before .before .are-of2 .ensures) ∙ not-true (c .before .before .are-of2 .result) (c .before .if3 .taken) in
-    c .refused3 .ensures ∙ sym (run-lent _ _ _ _ _ _ _ _ _ _ _ _ _ (sound (c .before .before .before .before .before .before)) false (c .before .before .before .before .before .if1 .left) (rw (first, second)))
+    c .refused3 .ensures ∙ sym (run-lent _ _ _ _ _ (sound (c .before .before .before .before .before .before)) false (c .before .before .before .before .before .if1 .left) (rw (first, second)))
 
 are-of-requires-3 : tie.Need-are-of-requires-3
 are-of-requires-3 c κs = search needs
@@ -69,17 +69,17 @@ returns-4 c =
     let first = sym (c .before .before .before .before .before .before .are-of .ensures) ∙ not-false (c .before .before .before .before .before .before .are-of .result) (c .before .before .before .before .before .if2 .left) in
     let second = sym (c .before .before .before .before .are-of2 .ensures) ∙ not-false (c .before .before .before .before .are-of2 .result) (c .before .before .before .if3 .left) in
     let third = sym (c .before .before .are-of3 .ensures) ∙ not-true (c .before .before .are-of3 .result) (c .before .if4 .taken) in
-    c .refused4 .ensures ∙ sym (run-lent _ _ _ _ _ _ _ _ _ _ _ _ _ (sound (c .before .before .before .before .before .before .before .before)) false (c .before .before .before .before .before .before .before .if1 .left) (rw (first, second, third)))
+    c .refused4 .ensures ∙ sym (run-lent _ _ _ _ _ (sound (c .before .before .before .before .before .before .before .before)) false (c .before .before .before .before .before .before .before .if1 .left) (rw (first, second, third)))
 
 returns-5 : tie.Need-returns-5
-returns-5 c = sym (run-refused _ _ _ _ _ _ _ _ _ _ _ _ _ (sym (c .before .before .before .admit .ensures) ∙ c .before .admitted .given .1))
+returns-5 c = sym (run-refused _ _ _ _ _ (sym (c .before .before .before .admit .ensures) ∙ c .before .admitted .given .1))
 
 returns-6 : tie.Need-returns-6
 returns-6 c =
     let first = sym (c .before .before .before .before .before .are-of .ensures) ∙ not-false (c .before .before .before .before .before .are-of .result) (c .before .before .before .before .if2 .left) in
     let second = sym (c .before .before .before .are-of2 .ensures) ∙ not-false (c .before .before .before .are-of2 .result) (c .before .before .if3 .left) in
     let third = sym (c .before .are-of3 .ensures) ∙ not-false (c .before .are-of3 .result) (c .if4 .left) in
-    sym (run-lent _ _ _ _ _ _ _ _ _ _ _ _ _ (sound (c .before .before .before .before .before .before .before)) true (c .before .before .before .before .before .before .if1 .left) (rw (first, second, third)))
+    sym (run-lent _ _ _ _ _ (sound (c .before .before .before .before .before .before .before)) true (c .before .before .before .before .before .before .if1 .left) (rw (first, second, third)))
 
 pub admit-spec : {M : Type 1} → statement M
 admit-spec =

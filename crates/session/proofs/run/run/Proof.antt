@@ -1,8 +1,7 @@
 -- `run::run` meets its contract: demand 3 for every session that is not refused. Assumes nothing.
 use mathlib.Core.Path.{_≡_, refl, sym, _∙_}
-use lib.ListN.{length}
 use Rattle.table.specs.declared.Checked.the-variants.{Sound}
-use Rattle.session.specs.Run.{runOf}
+use Rattle.session.specs.Run.{slices, runOf}
 use Rattle.session.proofs.Serving.{run-ready}
 use borrow.Author.Needs.{needs}
 use Rattle.session.proofs.run.run.Statement.{statement}
@@ -10,7 +9,7 @@ use Rattle.session.proofs.run.run.Tie as tie
 
 -- the answer is that nothing is refused
 told : (c : tie.After-enum-told) → let args = c .before .before .before .before .before .before .before .before .before .before .before .before .before .before .before .before .args in
-    runOf (args .starts .now) (args .links .now) (args .given .now) (length (args .requests .now)) (length (args .anchored .now)) (length (args .levels .now)) (length (args .layers .now)) (length (args .components .now)) (length (args .followers .now)) (length (args .stamps .now)) (length (args .status .now)) (length (args .lifted .now)) (length (args .redone .now)) ≡ Sound
+    runOf (args .starts .now) (args .links .now) (args .given .now) (args .requests .now) (slices (args .anchored .now) (args .levels .now) (args .layers .now) (args .components .now) (args .followers .now) (args .stamps .now) (args .status .now) (args .lifted .now) (args .redone .now)) ≡ Sound
 told c = sym (c .before .before .admit .ensures) ∙ c .enum-told .given .1
 
 -- the call, seen from the end
@@ -27,10 +26,15 @@ enum-told : tie.Need-enum-told
 enum-told c = search needs
 
 write-requires : tie.Need-write-requires
-write-requires c κs = run-ready _ _ _ _ _ _ _ _ _ _ _ _ _ (told (c .before .before .before .before .before .before .before .before .before))
+write-requires c κs =
+    let told-at = c .before .before .before .before .before .before .before .before .before in
+    let args = told-at .before .before .before .before .before .before .before .before .before .before .before .before .before .before .before .before .args in
+    run-ready (args .starts .now) (args .links .now) (args .given .now) (args .requests .now)
+    (slices (args .anchored .now) (args .levels .now) (args .layers .now) (args .components .now) (args .followers .now) (args .stamps .now) (args .status .now) (args .lifted .now) (args .redone .now))
+    (told told-at)
 
 returns : tie.Need-returns
-returns c = (sym (sym (c .before .before .before .admit .ensures) ∙ c .before .admitted .given .1), (refl, (refl, (refl, (refl, (refl, (refl, (refl, (refl, refl)))))))))
+returns c = (sym (sym (c .before .before .before .admit .ensures) ∙ c .before .admitted .given .1), refl)
 
 same-length : tie.Need-same-length
 same-length c = called c .write .kept .1 .1 .1 .1 .0

@@ -1,8 +1,16 @@
 -- `run::write` meets its contract. Assumes nothing.
+use mathlib.Core.Path.{_≡_}
+use mathlib.Core.List.{List}
+use Prim.Native.Nat.{ℕ}
 use native.Mathlib.Omega.{arith}
+use Rattle.session.specs.Run.{slices}
 use Rattle.session.proofs.Serving.{copied-out, end-anchored, end-levels, end-layers, end-components, end-counts}
 use Rattle.session.proofs.run.write.Statement.{statement}
 use Rattle.session.proofs.run.write.Tie as tie
+
+-- slices alike one by one are alike together
+same-slices : {a b c d e f g h i a1 b1 c1 d1 e1 f1 g1 h1 i1 : List ℕ} → a ≡ a1 → b ≡ b1 → c ≡ c1 → d ≡ d1 → e ≡ e1 → f ≡ f1 → g ≡ g1 → h ≡ h1 → i ≡ i1 → slices a b c d e f g h i ≡ slices a1 b1 c1 d1 e1 f1 g1 h1 i1
+same-slices pa pb pc pd pe pf pg ph pi = cc
 
 -- the calls, seen from the end
 abbrev rows-copied : tie.After-slice-known18 → tie.After-copy-rows
@@ -67,25 +75,17 @@ returns c =
     let end = served c .serve .ensures in
     let kept = served c .serve .result in
     let sheet = sheet-copied c .copy-sheet .ensures in
-    let rows = rows-copied c .copy-rows .ensures in (
-      copied-out _ (kept .anchored) _ _ _ (rows .0) (pre .anchored-long) (end-anchored _ _ _ _ _ _ _ _ _ (end .0) (end .1 .0)),
-      (
-        copied-out _ (kept .level) _ _ _ (sheet .0) (pre .levels-long) (end-levels _ _ _ _ _ _ _ _ _ (end .0) (end .1 .0)),
-        (
-          copied-out _ (kept .layer) _ _ _ (sheet .1 .0) (pre .layers-long) (end-layers _ _ _ _ _ _ _ _ _ (end .0) (end .1 .0)),
-          (
-            copied-out _ (kept .component) _ _ _ (sheet .1 .1) (pre .components-long) (end-components _ _ _ _ _ _ _ _ _ (end .0) (end .1 .0)),
-            (
-              copied-out _ (kept .followers) _ _ _ (rows .1 .0) (pre .followers-long) (end-counts _ _ _ _ _ _ _ _ _ (end .0) (end .1 .0)),
-              (
-                copied-out _ (kept .stamp) _ _ _ (rows .1 .1) (pre .stamps-long) (end .1 .0 .stamps),
-                (end .1 .1 .0, (end .1 .1 .1 .0, end .1 .1 .1 .1)),
-              ),
-            ),
-          ),
-        ),
-      ),
-    )
+    let rows = rows-copied c .copy-rows .ensures in
+    same-slices
+    (copied-out _ (kept .anchored) _ _ _ (rows .0) (pre .anchored-long) (end-anchored _ _ _ _ _ _ _ _ _ (end .0) (end .1 .0)))
+    (copied-out _ (kept .level) _ _ _ (sheet .0) (pre .levels-long) (end-levels _ _ _ _ _ _ _ _ _ (end .0) (end .1 .0)))
+    (copied-out _ (kept .layer) _ _ _ (sheet .1 .0) (pre .layers-long) (end-layers _ _ _ _ _ _ _ _ _ (end .0) (end .1 .0)))
+    (copied-out _ (kept .component) _ _ _ (sheet .1 .1) (pre .components-long) (end-components _ _ _ _ _ _ _ _ _ (end .0) (end .1 .0)))
+    (copied-out _ (kept .followers) _ _ _ (rows .1 .0) (pre .followers-long) (end-counts _ _ _ _ _ _ _ _ _ (end .0) (end .1 .0)))
+    (copied-out _ (kept .stamp) _ _ _ (rows .1 .1) (pre .stamps-long) (end .1 .0 .stamps))
+    (end .1 .1 .0)
+    (end .1 .1 .1 .0)
+    (end .1 .1 .1 .1)
 
 pub write-spec : {M : Type 1} → statement M
 write-spec =
