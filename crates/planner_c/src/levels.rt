@@ -10,8 +10,8 @@ ghost use Rattle.shells.specs.Input.{graphOf, anchoredBy};
 ghost use Rattle.level.specs.SheetCheck.{checkSheetOf};
 ghost use Rattle.level.specs.Answers.{workOf, written, listOf, Holding};
 ghost use Rattle.search.specs.Answers.{followersOf, marked};
-ghost use Rattle.planner_c.specs.Answers.{checkedAs, listedAs, searchedAs};
-use super::numbers::Answer;
+ghost use Rattle.numbers.specs.Numbers.{checkedAs, listedAs, searchedAs};
+use numbers::Answer;
 
 #[no_mangle]
 pub extern "C" fn planner_work(
@@ -27,7 +27,7 @@ pub extern "C" fn planner_work(
     ensures layers { λ r. ⌜ now (layers .exit) ≡ written (workOf (now (starts .entry)) (now (links .entry)) (now (anchored .entry)) (length (now (levels .entry))) (length (now (layers .entry))) (length (now (components .entry)))) (tabulate (layer (graphOf (now (starts .entry)) (now (links .entry))) (anchoredBy (now (anchored .entry)))) (vertices (now (starts .entry)))) (now (layers .entry)) ⌝ }
     ensures components { λ r. ⌜ now (components .exit) ≡ written (workOf (now (starts .entry)) (now (links .entry)) (now (anchored .entry)) (length (now (levels .entry))) (length (now (layers .entry))) (length (now (components .entry)))) (tabulate (component (graphOf (now (starts .entry)) (now (links .entry))) (anchoredBy (now (anchored .entry)))) (vertices (now (starts .entry)))) (now (components .entry)) ⌝ }
 {
-    super::numbers::of_checked(level::work::work(
+    numbers::of_checked(level::work::work(
         starts,
         links,
         anchored,
@@ -49,7 +49,7 @@ pub extern "C" fn planner_list_components(
     ensures answer { λ r. ⌜ r ≡ listedAs (listOf (now (starts .entry)) (now (links .entry)) (now (anchored .entry)) (length (now (levels .entry))) (length (now (sizes .entry))) (length (now (numbers .entry)))) ⌝ }
     ensures slices { λ r. ⌜ Holding (graphOf (now (starts .entry)) (now (links .entry))) (anchoredBy (now (anchored .entry))) (listOf (now (starts .entry)) (now (links .entry)) (now (anchored .entry)) (length (now (levels .entry))) (length (now (sizes .entry))) (length (now (numbers .entry)))) (now (levels .entry)) (now (sizes .entry)) (now (numbers .entry)) (now (levels .exit)) (now (sizes .exit)) (now (numbers .exit)) ⌝ }
 {
-    super::numbers::of_listed(level::listing::list_components(
+    numbers::of_listed(level::listing::list_components(
         starts,
         links,
         anchored,
@@ -69,7 +69,7 @@ pub extern "C" fn planner_check_sheet(
 ) -> Answer
     ensures { λ r. ⌜ r ≡ checkedAs (checkSheetOf (now (starts .entry)) (now (links .entry)) (now (anchored .entry)) (now (levels .entry)) (now (layers .entry))) ⌝ }
 {
-    super::numbers::of_checked(level::sheet::check_sheet(starts, links, anchored, levels, layers))
+    numbers::of_checked(level::sheet::check_sheet(starts, links, anchored, levels, layers))
 }
 
 #[no_mangle]
@@ -85,7 +85,7 @@ pub extern "C" fn planner_followers(
     ensures answer { λ r. ⌜ r ≡ searchedAs (followersOf (now (starts .entry)) (now (links .entry)) (now (anchored .entry)) (now (levels .entry)) (now (layers .entry)) x (length (now (marks .entry)))) ⌝ }
     ensures marks { λ r. ⌜ now (marks .exit) ≡ marked (followersOf (now (starts .entry)) (now (links .entry)) (now (anchored .entry)) (now (levels .entry)) (now (layers .entry)) x (length (now (marks .entry)))) (tabulate (mark (graphOf (now (starts .entry)) (now (links .entry))) (anchoredBy (now (anchored .entry))) x) (vertices (now (starts .entry)))) (now (marks .entry)) ⌝ }
 {
-    super::numbers::of_searched(search::followers(
+    numbers::of_searched(search::followers(
         starts,
         links,
         anchored,

@@ -1,5 +1,4 @@
 // The operations for Rust and C, on slices of numbers: one module for each crate they come from.
-pub mod numbers; // the numbers of an answer
 pub mod levels;
 pub mod sessions;
 pub mod tables;

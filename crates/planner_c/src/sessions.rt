@@ -1,8 +1,8 @@
 // A session over a list of requests.
 ghost use mathlib.Core.Path.{_≡_};
 ghost use Rattle.session.specs.Run.{slices, runOf, ended, left};
-ghost use Rattle.planner_c.specs.Answers.{checkedAs};
-use super::numbers::Answer;
+ghost use Rattle.numbers.specs.Numbers.{checkedAs};
+use numbers::Answer;
 
 #[no_mangle]
 pub extern "C" fn planner_run(
@@ -23,7 +23,7 @@ pub extern "C" fn planner_run(
     ensures answer { λ r. ⌜ r ≡ checkedAs (runOf (now (starts .entry)) (now (links .entry)) (now (given .entry)) (now (requests .entry)) (slices (now (anchored .entry)) (now (levels .entry)) (now (layers .entry)) (now (components .entry)) (now (followers .entry)) (now (stamps .entry)) (now (status .entry)) (now (lifted .entry)) (now (redone .entry)))) ⌝ }
     ensures slices { λ r. ⌜ slices (now (anchored .exit)) (now (levels .exit)) (now (layers .exit)) (now (components .exit)) (now (followers .exit)) (now (stamps .exit)) (now (status .exit)) (now (lifted .exit)) (now (redone .exit)) ≡ left (runOf (now (starts .entry)) (now (links .entry)) (now (given .entry)) (now (requests .entry)) (slices (now (anchored .entry)) (now (levels .entry)) (now (layers .entry)) (now (components .entry)) (now (followers .entry)) (now (stamps .entry)) (now (status .entry)) (now (lifted .entry)) (now (redone .entry)))) (ended (now (starts .entry)) (now (links .entry)) (now (given .entry)) (now (requests .entry))) (slices (now (anchored .entry)) (now (levels .entry)) (now (layers .entry)) (now (components .entry)) (now (followers .entry)) (now (stamps .entry)) (now (status .entry)) (now (lifted .entry)) (now (redone .entry))) ⌝ }
 {
-    super::numbers::of_checked(session::run::run(
+    numbers::of_checked(session::run::run(
         starts,
         links,
         given,

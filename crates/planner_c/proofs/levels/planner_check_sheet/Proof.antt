@@ -1,5 +1,5 @@
 use mathlib.Core.Path.{ap, _∙_}
-use Rattle.planner_c.specs.Answers.{checkedAs}
+use Rattle.numbers.specs.Numbers.{checkedAs}
 use borrow.Author.Needs.{needs}
 use Rattle.planner_c.proofs.levels.planner_check_sheet.Statement.{statement}
 use Rattle.planner_c.proofs.levels.planner_check_sheet.Tie as tie

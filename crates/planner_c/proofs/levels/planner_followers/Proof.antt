@@ -1,5 +1,5 @@
 use mathlib.Core.Path.{ap, _∙_}
-use Rattle.planner_c.specs.Answers.{searchedAs}
+use Rattle.numbers.specs.Numbers.{searchedAs}
 use borrow.Author.Needs.{needs}
 use Rattle.planner_c.proofs.levels.planner_followers.Statement.{statement}
 use Rattle.planner_c.proofs.levels.planner_followers.Tie as tie

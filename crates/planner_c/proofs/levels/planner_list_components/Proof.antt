@@ -1,5 +1,5 @@
 use mathlib.Core.Path.{ap, _∙_}
-use Rattle.planner_c.specs.Answers.{listedAs}
+use Rattle.numbers.specs.Numbers.{listedAs}
 use borrow.Author.Needs.{needs}
 use Rattle.planner_c.proofs.levels.planner_list_components.Statement.{statement}
 use Rattle.planner_c.proofs.levels.planner_list_components.Tie as tie

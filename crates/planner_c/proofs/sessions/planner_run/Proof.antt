@@ -1,7 +1,7 @@
 use mathlib.Core.Path.{_≡_, ap, _∙_}
 use Rattle.session.specs.Run.{Slices, left}
 use Rattle.table.specs.declared.Checked.{Checked}
-use Rattle.planner_c.specs.Answers.{checkedAs}
+use Rattle.numbers.specs.Numbers.{checkedAs}
 use borrow.Author.Needs.{needs}
 use Rattle.planner_c.proofs.sessions.planner_run.Statement.{statement}
 use Rattle.planner_c.proofs.sessions.planner_run.Tie as tie

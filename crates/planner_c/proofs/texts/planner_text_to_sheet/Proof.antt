@@ -3,7 +3,7 @@ use mathlib.Core.List.{List}
 use Prim.Native.Nat.{ℕ}
 use Rattle.answer.specs.declared.call.Answered.{Answered}
 use Rattle.answer.specs.Answer.{lent}
-use Rattle.planner_c.specs.Answers.{answeredAs}
+use Rattle.numbers.specs.Numbers.{answeredAs}
 use borrow.Author.Needs.{needs}
 use Rattle.planner_c.proofs.texts.planner_text_to_sheet.Statement.{statement}
 use Rattle.planner_c.proofs.texts.planner_text_to_sheet.Tie as tie

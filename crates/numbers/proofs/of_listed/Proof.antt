@@ -1,8 +1,8 @@
 use mathlib.Core.Path.{sym, ap}
-use Rattle.planner_c.specs.Answers.{listedAs}
+use Rattle.numbers.specs.Numbers.{listedAs}
 use borrow.Author.Needs.{needs}
-use Rattle.planner_c.proofs.numbers.of_listed.Statement.{statement}
-use Rattle.planner_c.proofs.numbers.of_listed.Tie as tie
+use Rattle.numbers.proofs.of_listed.Statement.{statement}
+use Rattle.numbers.proofs.of_listed.Tie as tie
 
 enum-known-listed : tie.Need-enum-known-listed
 enum-known-listed c = search needs

@@ -1,8 +1,8 @@
 use mathlib.Core.Path.{sym, ap}
-use Rattle.planner_c.specs.Answers.{checkedAs}
+use Rattle.numbers.specs.Numbers.{checkedAs}
 use borrow.Author.Needs.{needs}
-use Rattle.planner_c.proofs.numbers.of_checked.Statement.{statement}
-use Rattle.planner_c.proofs.numbers.of_checked.Tie as tie
+use Rattle.numbers.proofs.of_checked.Statement.{statement}
+use Rattle.numbers.proofs.of_checked.Tie as tie
 
 enum-told : tie.Need-enum-told
 enum-told c = search needs

@@ -1,8 +1,8 @@
 use mathlib.Core.Path.{sym, ap}
-use Rattle.planner_c.specs.Answers.{searchedAs}
+use Rattle.numbers.specs.Numbers.{searchedAs}
 use borrow.Author.Needs.{needs}
-use Rattle.planner_c.proofs.numbers.of_searched.Statement.{statement}
-use Rattle.planner_c.proofs.numbers.of_searched.Tie as tie
+use Rattle.numbers.proofs.of_searched.Statement.{statement}
+use Rattle.numbers.proofs.of_searched.Tie as tie
 
 enum-known-searched : tie.Need-enum-known-searched
 enum-known-searched c = search needs

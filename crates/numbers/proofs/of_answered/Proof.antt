@@ -1,8 +1,8 @@
 use mathlib.Core.Path.{sym, ap}
-use Rattle.planner_c.specs.Answers.{answeredAs}
+use Rattle.numbers.specs.Numbers.{answeredAs}
 use borrow.Author.Needs.{needs}
-use Rattle.planner_c.proofs.texts.of_answered.Statement.{statement}
-use Rattle.planner_c.proofs.texts.of_answered.Tie as tie
+use Rattle.numbers.proofs.of_answered.Statement.{statement}
+use Rattle.numbers.proofs.of_answered.Tie as tie
 
 enum-known-answered : tie.Need-enum-known-answered
 enum-known-answered c = search needs

@@ -1,6 +1,6 @@
 // The numbers of an answer, as Rust and C get them.
 ghost use mathlib.Core.Path.{_≡_};
-ghost use Rattle.planner_c.specs.Answers.{checkedAs, listedAs, searchedAs};
+ghost use Rattle.numbers.specs.Numbers.{checkedAs, listedAs, searchedAs, answeredAs};
 
 // 0 and the values of an accepted call, or a refusal's number and place.
 #[repr(C)]
@@ -62,6 +62,30 @@ pub fn of_searched(searched: search::Searched) -> Answer
                 number: refusal.number as u64,
                 first: refusal.place as u64,
                 second: 0,
+            }
+        }
+    }
+}
+
+// 0 and the sheet's length, or a refusal's number and place.
+#[repr(C)]
+pub struct Sheeted {
+    pub number: u64,
+    pub value: u64,
+}
+
+pub fn of_answered(answered: answer::Answered) -> Sheeted
+    ensures { λ r. ⌜ r ≡ answeredAs answered ⌝ }
+{
+    match answered {
+        answer::Answered::Sheet(size) => Sheeted {
+            number: 0,
+            value: size as u64,
+        },
+        answer::Answered::Refused(refusal) => {
+            Sheeted {
+                number: refusal.number as u64,
+                value: refusal.place as u64,
             }
         }
     }

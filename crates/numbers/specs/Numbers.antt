@@ -1,6 +1,6 @@
 -- The numbers of an answer, as Rust and C get them: 0 and an accepted call's values, or a refusal's number and place.
 use Prim.Native.Nat.{ℕ}
-use Rattle.planner_c.specs.declared.numbers.Answer.{Answer}
+use Rattle.numbers.specs.declared.Answer.{Answer}
 use Rattle.table.specs.declared.Checked.{Checked}
 use Rattle.table.specs.declared.Checked.the-variants.{Sound, Refused}
 use Rattle.search.specs.declared.operation.Searched.{Searched}
@@ -9,7 +9,7 @@ use Rattle.level.specs.declared.listing.Listed.{Listed}
 use Rattle.level.specs.declared.listing.Listed.the-variants.{Count, Refused as ListRefused}
 use Rattle.answer.specs.declared.call.Answered.{Answered}
 use Rattle.answer.specs.declared.call.Answered.the-variants.{Sheet, Refused as SheetRefused}
-use Rattle.planner_c.specs.declared.texts.Sheeted.{Sheeted}
+use Rattle.numbers.specs.declared.Sheeted.{Sheeted}
 
 abbrev pub numbers : ℕ → ℕ → ℕ → Answer
 numbers number first second = record { number = number; first = first; second = second }
