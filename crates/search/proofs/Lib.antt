@@ -1,4 +1,2 @@
-pub mod Reaching
-pub mod Striking
-pub mod Remaining
+pub mod Parts
 pub mod Answers

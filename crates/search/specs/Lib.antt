@@ -1,2 +1,1 @@
-pub mod Searching
 pub mod Answers

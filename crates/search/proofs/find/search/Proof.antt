@@ -6,9 +6,10 @@ use lib.ListN.{getD}
 use Rattle.table.specs.Table.{vertices}
 use Rattle.anchored.specs.Followers.{followers}
 use Rattle.shells.specs.Input.{graphOf, anchoredBy}
-use Rattle.search.specs.Searching.{Sheet, marked, state}
-use Rattle.search.proofs.Reaching.{queue-start}
-use Rattle.search.proofs.Remaining.{reached-is, found-marks, found-counts}
+use Rattle.candidates.specs.Reaching.{Sheet}
+use Rattle.candidates.proofs.Reaching.{queue-start}
+use Rattle.support.specs.Striking.{marked, state}
+use Rattle.search.proofs.Parts.{reached-is, found-marks, found-counts}
 use Rattle.search.proofs.find.search.Statement.{statement}
 use Rattle.search.proofs.find.search.Tie as tie
 
