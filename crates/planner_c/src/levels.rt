@@ -8,7 +8,8 @@ ghost use Rattle.anchored.specs.Component.{component};
 ghost use Rattle.anchored.specs.Followers.{mark};
 ghost use Rattle.shells.specs.Input.{graphOf, anchoredBy};
 ghost use Rattle.level.specs.SheetCheck.{checkSheetOf};
-ghost use Rattle.level.specs.Answers.{workOf, written, listOf, Holding};
+ghost use Rattle.level.specs.Answers.{workOf, written};
+ghost use Rattle.components.specs.Answers.{listOf, Holding};
 ghost use Rattle.search.specs.Answers.{followersOf, marked};
 ghost use Rattle.planner_c.specs.Answers.{checkedAs, listedAs, searchedAs};
 use super::numbers::Answer;
@@ -49,7 +50,7 @@ pub extern "C" fn planner_list_components(
     ensures answer { λ r. ⌜ r ≡ listedAs (listOf (now (starts .entry)) (now (links .entry)) (now (anchored .entry)) (length (now (levels .entry))) (length (now (sizes .entry))) (length (now (numbers .entry)))) ⌝ }
     ensures slices { λ r. ⌜ Holding (graphOf (now (starts .entry)) (now (links .entry))) (anchoredBy (now (anchored .entry))) (listOf (now (starts .entry)) (now (links .entry)) (now (anchored .entry)) (length (now (levels .entry))) (length (now (sizes .entry))) (length (now (numbers .entry)))) (now (levels .entry)) (now (sizes .entry)) (now (numbers .entry)) (now (levels .exit)) (now (sizes .exit)) (now (numbers .exit)) ⌝ }
 {
-    super::numbers::of_listed(level::listing::list_components(
+    super::numbers::of_listed(components::list_components(
         starts,
         links,
         anchored,

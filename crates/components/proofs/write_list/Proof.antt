@@ -1,12 +1,12 @@
--- `listing::write_list` meets its contract: the entries are the components of the definitions. Assumes nothing.
+-- `write_list` meets its contract: the entries are the components of the definitions. Assumes nothing.
 use Prim.Native.Nat.{_≤_}
 use native.Mathlib.Omega.{arith}
 use lib.ListN.{length}
 use Rattle.table.specs.Table.{vertices}
 use Rattle.shells.specs.Input.{graphOf, anchoredBy}
-use Rattle.level.proofs.Entries.{entries-few, listed-count, lists}
-use Rattle.level.proofs.listing.write_list.Statement.{statement}
-use Rattle.level.proofs.listing.write_list.Tie as tie
+use Rattle.components.proofs.Entries.{entries-few, listed-count, lists}
+use Rattle.components.proofs.write_list.Statement.{statement}
+use Rattle.components.proofs.write_list.Tie as tie
 
 abbrev entry : tie.After-fill → tie.Start
 entry c = c .before .before .before .before .before .before .before .before .before .before

@@ -1,4 +1,4 @@
--- `listing::count_members` meets its contract. The invariant: the sizes count the vertices below v. Assumes nothing.
+-- `count_members` meets its contract. The invariant: the sizes count the vertices below v. Assumes nothing.
 use mathlib.Core.Path.{_≡_, sym, ap, _∙_}
 use mathlib.Core.Logic.{⊎-elim}
 use Prim.Native.Nat.{ℕ, _-_, _≤_}
@@ -6,10 +6,10 @@ use native.Mathlib.Omega.{arith}
 use lib.ListN.{length, getD, length-set, length-replicate}
 use Rattle.finite.proofs.Count.{zeros-at, count-below-zero}
 use Rattle.shells.specs.Arrays.{Holds}
-use Rattle.level.specs.Entries.{members}
-use Rattle.level.proofs.Entries.{members-few, members-more, members-same}
-use Rattle.level.proofs.listing.count_members.Statement.{statement}
-use Rattle.level.proofs.listing.count_members.Tie as tie
+use Rattle.components.specs.Entries.{members}
+use Rattle.components.proofs.Entries.{members-few, members-more, members-same}
+use Rattle.components.proofs.count_members.Statement.{statement}
+use Rattle.components.proofs.count_members.Tie as tie
 use borrow.Author.Needs.{needs}
 
 abbrev Inv-loop : tie.InvT-loop

@@ -7,8 +7,8 @@ ghost use Rattle.table.specs.Table.{vertices};
 ghost use Rattle.anchored.specs.Component.{heads};
 ghost use Rattle.shells.specs.Input.{graphOf, anchoredBy, Admitted};
 ghost use Rattle.shells.specs.Arrays.{Holds};
-ghost use Rattle.level.specs.Answers.{listOf, Lists, Keeps, Holding};
-ghost use Rattle.level.specs.Entries.{numbered, members, Entries};
+ghost use Rattle.components.specs.Answers.{listOf, Lists, Keeps, Holding};
+ghost use Rattle.components.specs.Entries.{numbered, members, Entries};
 
 // The answer of the list: how many components it has, or a refusal.
 pub enum Listed {
@@ -80,7 +80,7 @@ fn write_list(
     let mut component = [0u16; 1024];
     let mut size = [0u16; 1024];
     let n = starts.len() - 1;
-    crate::work::fill(
+    level::work::fill(
         starts,
         links,
         anchored,
@@ -104,7 +104,7 @@ pub fn list_components(
     ensures answer { λ r. ⌜ r ≡ listOf (now (starts .entry)) (now (links .entry)) (now (anchored .entry)) (length (now (levels .entry))) (length (now (sizes .entry))) (length (now (numbers .entry))) ⌝ }
     ensures slices { λ r. ⌜ Holding (graphOf (now (starts .entry)) (now (links .entry))) (anchoredBy (now (anchored .entry))) r (now (levels .entry)) (now (sizes .entry)) (now (numbers .entry)) (now (levels .exit)) (now (sizes .exit)) (now (numbers .exit)) ⌝ }
 {
-    let admitted = crate::work::admit_slices(
+    let admitted = level::work::admit_slices(
         starts,
         links,
         anchored,

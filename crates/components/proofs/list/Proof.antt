@@ -1,4 +1,4 @@
--- `listing::list` meets its contract. The invariant: the entries are the vertices below v that are their component's number. Assumes nothing.
+-- `list` meets its contract. The invariant: the entries are the vertices below v that are their component's number. Assumes nothing.
 use mathlib.Core.Path.{_≡_}
 use mathlib.Core.Logic.{⊎-elim}
 use mathlib.Core.List.{List}
@@ -6,10 +6,10 @@ use Prim.Native.Nat.{ℕ, _-_, _≤_, _<_}
 use native.Mathlib.Omega.{arith}
 use lib.ListN.{length, getD}
 use borrow.Author.Tests.{eq-eqb, ne-eqb}
-use Rattle.level.specs.Entries.{numbered, Entries}
-use Rattle.level.proofs.Entries.{entries-none, entries-same, entries-more, entries-few}
-use Rattle.level.proofs.listing.list.Statement.{statement}
-use Rattle.level.proofs.listing.list.Tie as tie
+use Rattle.components.specs.Entries.{numbered, Entries}
+use Rattle.components.proofs.Entries.{entries-none, entries-same, entries-more, entries-few}
+use Rattle.components.proofs.list.Statement.{statement}
+use Rattle.components.proofs.list.Tie as tie
 use borrow.Author.Needs.{needs}
 
 abbrev at : List ℕ → ℕ → ℕ

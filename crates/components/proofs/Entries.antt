@@ -18,8 +18,8 @@ use Rattle.anchored.specs.Graph.{Graph}
 use Rattle.anchored.specs.Core.{level}
 use Rattle.anchored.specs.Component.{component, together, heads, componentSize}
 use Rattle.shells.specs.Arrays.{Holds}
-use Rattle.level.specs.Answers.{Lists, Keeps}
-use Rattle.level.specs.Entries.{numbered, members, Entries}
+use Rattle.components.specs.Answers.{Lists, Keeps}
+use Rattle.components.specs.Entries.{numbered, members, Entries}
 
 -- ---- counting members
 

@@ -6,7 +6,7 @@ use Prim.Native.Nat.{ℕ, _<_}
 use lib.ListN.{take, getD}
 use lib.Dec.{ltb, eqb}
 use Rattle.finite.specs.Count.{bit, count, below}
-use Rattle.level.specs.Answers.{Keeps}
+use Rattle.components.specs.Answers.{Keeps}
 
 -- v is its component's number
 abbrev pub numbered : List ℕ → ℕ → Bool

@@ -1,13 +1,14 @@
--- `listing::list_components` meets its contract: a refusal is handed on, and without one the list is written. Assumes nothing.
+-- `list_components` meets its contract: a refusal is handed on, and without one the list is written. Assumes nothing.
 use mathlib.Core.Path.{_≡_, refl, sym, ap, _∙_}
 use lib.ListN.{length}
 use Rattle.table.specs.declared.Checked.the-variants.{Sound}
 use Rattle.level.specs.Answers.{workOf}
-use Rattle.level.specs.declared.listing.Listed.the-variants.{Count}
-use Rattle.level.proofs.Answers.{work-sound, list-refused, list-count}
+use Rattle.level.proofs.Answers.{work-sound}
+use Rattle.components.specs.declared.Listed.the-variants.{Count}
+use Rattle.components.proofs.Answers.{list-refused, list-count}
 use borrow.Author.Needs.{needs}
-use Rattle.level.proofs.listing.list_components.Statement.{statement}
-use Rattle.level.proofs.listing.list_components.Tie as tie
+use Rattle.components.proofs.list_components.Statement.{statement}
+use Rattle.components.proofs.list_components.Tie as tie
 
 told : (c : tie.After-enum-told) → let args = c .before .before .before .before .before .before .before .before .before .args in
     workOf (args .starts .now) (args .links .now) (args .anchored .now) (length (args .levels .now)) (length (args .sizes .now)) (length (args .numbers .now)) ≡ Sound
