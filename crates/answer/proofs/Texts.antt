@@ -13,7 +13,7 @@ use Rattle.finite.proofs.Tests.{split, false-of}
 use Rattle.finite.proofs.Count.{length-tabulate, tabulate-at, bit-one, bit-le}
 use Rattle.finite.proofs.Search.{member-e}
 use Rattle.shells.specs.Input.{anchoredBy}
-use Rattle.text.specs.List.{anchor, firstBeyond}
+use Rattle.lines.specs.List.{anchor, firstBeyond}
 use Rattle.text.specs.Text.{readingOf, riderLinesRead, startsRead, linksRead, retainedRead}
 use Rattle.text.specs.declared.read.Summary.{Summary}
 use Rattle.text.specs.declared.read.Reading.the-variants.{Read, Departs}

@@ -1,21 +1,18 @@
--- The answers of the operations, refusal by refusal, and what an answer that refuses nothing promises. Assumes nothing.
+-- The answer of the working of a sheet, refusal by refusal, and what it promises where nothing is refused. Assumes nothing.
 use mathlib.Core.Path.{_≡_}
 use mathlib.Core.Bool.{Bool, true, false, cond, _&&_}
 use mathlib.Core.List.{List}
 use Prim.Native.Nat.{ℕ}
 use native.Mathlib.Omega.{arith}
 use lib.Dec.{T, eqb, eqb→eq}
-use Rattle.finite.specs.Count.{count, below}
 use Rattle.finite.proofs.Tests.{and-l, and-r}
 use Rattle.table.specs.Table.{vertices, refused}
 use Rattle.table.specs.declared.Refusal.{Refusal}
 use Rattle.table.specs.declared.Checked.{Checked}
 use Rattle.table.specs.declared.Checked.the-variants.{Sound, Refused}
-use Rattle.anchored.specs.Component.{heads}
-use Rattle.shells.specs.Input.{graphOf, anchoredBy, admitOf, Admitted}
+use Rattle.shells.specs.Input.{admitOf, Admitted}
 use Rattle.shells.proofs.Laws.{went-through, admitted}
-use Rattle.level.specs.Answers.{workOf, listOf}
-use Rattle.level.specs.declared.listing.Listed.the-variants.{Count, Refused as ListRefused}
+use Rattle.level.specs.Answers.{workOf}
 
 -- where a test that fails leads to a refusal, an answer that is sound passed it
 pub passed : (b : Bool) (k p : ℕ) (rest : Checked) → cond b rest (refused k p) ≡ Sound → T b × (rest ≡ Sound)
@@ -44,12 +41,3 @@ module _ (s l a : List ℕ) (p q r : ℕ) where
       let t = passed of-n 12 0 Sound (through .1) .0 in
       let both = and-l (eqb p n && eqb q n) (eqb r n) t in
       (admitted s l a (through .0), eqb→eq p n (and-l (eqb p n) (eqb q n) both), eqb→eq q n (and-r (eqb p n) (eqb q n) both), eqb→eq r n (and-r (eqb p n && eqb q n) (eqb r n) t))
-
-  -- the component list refuses what the working of the sheet does
-  pub list-refused : {x : Refusal} → workOf s l a p q r ≡ Refused x → listOf s l a p q r ≡ ListRefused x
-  unfolding listOf
-  list-refused e = rw (listOf, e)
-
-  pub list-count : workOf s l a p q r ≡ Sound → listOf s l a p q r ≡ Count (count (heads (graphOf s l) (anchoredBy a)) (below (vertices s)))
-  unfolding listOf
-  list-count e = rw (listOf, e)

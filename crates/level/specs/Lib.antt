@@ -1,3 +1,2 @@
 pub mod SheetCheck
 pub mod Answers
-pub mod Entries

@@ -1,6 +1,6 @@
 // Works the pools C to H of document 01, and a star whose hub is anchored, lists their components, searches from every vertex, and
 // checks the sheet and every sheet with one entry off by one. Then a refusal of each kind that comes after the table's.
-use level::listing::Listed;
+use components::Listed;
 use libc::STDOUT_FILENO;
 use search::Searched;
 use table::Checked;
@@ -55,7 +55,7 @@ fn list(name: &[u8], starts: &[u16], links: &[u16], anchored: &[u8]) {
     let mut levels = [7u16; 4];
     let mut sizes = [7u16; 4];
     let mut numbers = [7u16; 4];
-    let answer = level::listing::list_components(
+    let answer = components::list_components(
         starts,
         links,
         anchored,

@@ -5,8 +5,8 @@ use Rattle.table.specs.declared.Checked.{Checked}
 use Rattle.table.specs.declared.Checked.the-variants.{Sound, Refused}
 use Rattle.search.specs.declared.operation.Searched.{Searched}
 use Rattle.search.specs.declared.operation.Searched.the-variants.{Found, Refused as SearchRefused}
-use Rattle.level.specs.declared.listing.Listed.{Listed}
-use Rattle.level.specs.declared.listing.Listed.the-variants.{Count, Refused as ListRefused}
+use Rattle.components.specs.declared.Listed.{Listed}
+use Rattle.components.specs.declared.Listed.the-variants.{Count, Refused as ListRefused}
 use Rattle.answer.specs.declared.call.Answered.{Answered}
 use Rattle.answer.specs.declared.call.Answered.the-variants.{Sheet, Refused as SheetRefused}
 use Rattle.numbers.specs.declared.Sheeted.{Sheeted}

@@ -29,16 +29,16 @@ pub fn of_checked(checked: table::Checked) -> Answer
     }
 }
 
-pub fn of_listed(listed: level::listing::Listed) -> Answer
+pub fn of_listed(listed: components::Listed) -> Answer
     ensures { λ r. ⌜ r ≡ listedAs listed ⌝ }
 {
     match listed {
-        level::listing::Listed::Count(count) => Answer {
+        components::Listed::Count(count) => Answer {
             number: 0,
             first: count as u64,
             second: 0,
         },
-        level::listing::Listed::Refused(refusal) => Answer {
+        components::Listed::Refused(refusal) => Answer {
             number: refusal.number as u64,
             first: refusal.place as u64,
             second: 0,

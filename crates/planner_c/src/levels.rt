@@ -8,7 +8,8 @@ ghost use Rattle.anchored.specs.Component.{component};
 ghost use Rattle.anchored.specs.Followers.{mark};
 ghost use Rattle.shells.specs.Input.{graphOf, anchoredBy};
 ghost use Rattle.level.specs.SheetCheck.{checkSheetOf};
-ghost use Rattle.level.specs.Answers.{workOf, written, listOf, Holding};
+ghost use Rattle.level.specs.Answers.{workOf, written};
+ghost use Rattle.components.specs.Answers.{listOf, Holding};
 ghost use Rattle.search.specs.Answers.{followersOf, marked};
 ghost use Rattle.numbers.specs.Numbers.{checkedAs, listedAs, searchedAs};
 use numbers::Answer;
@@ -27,14 +28,7 @@ pub extern "C" fn planner_work(
     ensures layers { λ r. ⌜ now (layers .exit) ≡ written (workOf (now (starts .entry)) (now (links .entry)) (now (anchored .entry)) (length (now (levels .entry))) (length (now (layers .entry))) (length (now (components .entry)))) (tabulate (layer (graphOf (now (starts .entry)) (now (links .entry))) (anchoredBy (now (anchored .entry)))) (vertices (now (starts .entry)))) (now (layers .entry)) ⌝ }
     ensures components { λ r. ⌜ now (components .exit) ≡ written (workOf (now (starts .entry)) (now (links .entry)) (now (anchored .entry)) (length (now (levels .entry))) (length (now (layers .entry))) (length (now (components .entry)))) (tabulate (component (graphOf (now (starts .entry)) (now (links .entry))) (anchoredBy (now (anchored .entry)))) (vertices (now (starts .entry)))) (now (components .entry)) ⌝ }
 {
-    numbers::of_checked(level::work::work(
-        starts,
-        links,
-        anchored,
-        levels,
-        layers,
-        components,
-    ))
+    numbers::of_checked(level::work::work(starts, links, anchored, levels, layers, components))
 }
 
 #[no_mangle]
@@ -49,14 +43,7 @@ pub extern "C" fn planner_list_components(
     ensures answer { λ r. ⌜ r ≡ listedAs (listOf (now (starts .entry)) (now (links .entry)) (now (anchored .entry)) (length (now (levels .entry))) (length (now (sizes .entry))) (length (now (numbers .entry)))) ⌝ }
     ensures slices { λ r. ⌜ Holding (graphOf (now (starts .entry)) (now (links .entry))) (anchoredBy (now (anchored .entry))) (listOf (now (starts .entry)) (now (links .entry)) (now (anchored .entry)) (length (now (levels .entry))) (length (now (sizes .entry))) (length (now (numbers .entry)))) (now (levels .entry)) (now (sizes .entry)) (now (numbers .entry)) (now (levels .exit)) (now (sizes .exit)) (now (numbers .exit)) ⌝ }
 {
-    numbers::of_listed(level::listing::list_components(
-        starts,
-        links,
-        anchored,
-        levels,
-        sizes,
-        numbers,
-    ))
+    numbers::of_listed(components::list_components(starts, links, anchored, levels, sizes, numbers))
 }
 
 #[no_mangle]
@@ -85,13 +72,5 @@ pub extern "C" fn planner_followers(
     ensures answer { λ r. ⌜ r ≡ searchedAs (followersOf (now (starts .entry)) (now (links .entry)) (now (anchored .entry)) (now (levels .entry)) (now (layers .entry)) x (length (now (marks .entry)))) ⌝ }
     ensures marks { λ r. ⌜ now (marks .exit) ≡ marked (followersOf (now (starts .entry)) (now (links .entry)) (now (anchored .entry)) (now (levels .entry)) (now (layers .entry)) x (length (now (marks .entry)))) (tabulate (mark (graphOf (now (starts .entry)) (now (links .entry))) (anchoredBy (now (anchored .entry))) x) (vertices (now (starts .entry)))) (now (marks .entry)) ⌝ }
 {
-    numbers::of_searched(search::followers(
-        starts,
-        links,
-        anchored,
-        levels,
-        layers,
-        x,
-        marks,
-    ))
+    numbers::of_searched(search::followers(starts, links, anchored, levels, layers, x, marks))
 }

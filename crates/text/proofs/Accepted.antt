@@ -16,8 +16,8 @@ use Rattle.finite.proofs.Tests.{true-of, of-true}
 use Rattle.finite.proofs.Count.{in-append, flatten-append}
 use Rattle.reader.specs.Number.{cursor}
 use Rattle.reader.specs.Form.{onNext, formAt}
-use Rattle.text.specs.List.{Numbers, listAt}
-use Rattle.text.specs.Line.{ridersAt, riderAt, retainedAt, roundsAt}
+use Rattle.lines.specs.List.{Numbers, listAt}
+use Rattle.lines.specs.Line.{ridersAt, riderAt, retainedAt, roundsAt}
 use Rattle.text.specs.Text.{Lists, moreLists, riderLinesFrom, riderLinesAt, restOf, readingOf, linksRead, retainedRead}
 use Rattle.text.specs.Spelling.{spelledList, ridersLine, riderLine, retainedLine, roundsLine, riderLines, Content, linesOf, spell, WellFormed, summaryOf, contentOf}
 use Rattle.reader.specs.declared.number.Cursor.{Cursor}
@@ -27,7 +27,7 @@ use Rattle.text.specs.declared.read.Summary.{Summary}
 use Rattle.text.specs.declared.read.Reading.{Reading}
 use Rattle.reader.proofs.Numbers.{number-small}
 use Rattle.reader.proofs.Forms.{form-parts, form-in}
-use Rattle.text.proofs.Lines.{rider-head, rider-with, rider-tail, retained-head, line-tail, rider-parts, retained-parts}
+use Rattle.lines.proofs.Lines.{rider-head, rider-with, rider-tail, retained-head, line-tail, rider-parts, retained-parts}
 use Rattle.text.proofs.Texts.{riders-read, retained-read, whole-parts}
 use Rattle.text.proofs.Spelling.{skip-text, form-text, list-text, list-small, past, skip-spelled, form-spelled, list-spelled}
 

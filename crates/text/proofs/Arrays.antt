@@ -16,7 +16,7 @@ use Rattle.finite.proofs.Count.{flatten-append, tabulate-take, zeros-at, set-re
 use Rattle.finite.proofs.Search.{scans, ascending-scan}
 use Rattle.finite.proofs.Stores.{sets-front}
 use Rattle.finite.proofs.Tests.{and-l, and-r, eqb-sym}
-use Rattle.text.specs.List.{firstBeyond, anchor}
+use Rattle.lines.specs.List.{firstBeyond, anchor}
 use Rattle.text.specs.Text.{Lists, startsFrom, readingOf, riderLinesRead, startsRead, linksRead}
 use Rattle.reader.specs.declared.number.Cursor.{Cursor}
 use Rattle.reader.specs.declared.form.Next.{Next}

@@ -16,8 +16,8 @@ use Rattle.finite.proofs.Tests.{of-true}
 use Rattle.finite.proofs.Count.{in-append, flatten-append}
 use Rattle.finite.proofs.Search.{ascending-scan}
 use Rattle.reader.specs.Form.{onNext}
-use Rattle.text.specs.List.{Numbers}
-use Rattle.text.specs.Line.{ridersAt, riderAt, retainedAt, roundsAt}
+use Rattle.lines.specs.List.{Numbers}
+use Rattle.lines.specs.Line.{ridersAt, riderAt, retainedAt, roundsAt}
 use Rattle.text.specs.Text.{Lists, moreLists, riderLinesFrom, riderLinesAt, readingOf}
 use Rattle.text.specs.Spelling.{ridersLine, riderLine, retainedLine, roundsLine, riderLines, Content, linesOf, WellFormed}
 use Rattle.reader.specs.declared.number.Cursor.{Cursor}

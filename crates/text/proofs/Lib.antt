@@ -1,5 +1,3 @@
-pub mod Lists
-pub mod Lines
 pub mod Texts
 pub mod Spelling
 pub mod Accepted

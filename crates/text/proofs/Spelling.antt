@@ -16,14 +16,14 @@ use Rattle.finite.specs.Count.{In}
 use Rattle.finite.proofs.Bytes.{decimal-one, decimal-more}
 use Rattle.reader.specs.Number.{cursor, digitOf, digits, value, unpadded, numberOf, numberAt}
 use Rattle.reader.specs.Form.{begins, skipAt, formAt}
-use Rattle.text.specs.List.{more, listAt}
+use Rattle.lines.specs.List.{more, listAt}
 use Rattle.text.specs.Spelling.{spelledList}
 use Rattle.reader.specs.declared.number.Cursor.{Cursor}
 use Rattle.reader.specs.declared.number.Number.{Number}
 use Rattle.reader.specs.declared.form.Next.{Next}
 use Rattle.reader.proofs.Numbers.{number-digits, number-small}
 use Rattle.reader.proofs.Forms.{skip-found, form-parts}
-use Rattle.text.proofs.Lists.{space-in, list-end, list-more, list-ind}
+use Rattle.lines.proofs.Lists.{space-in, list-end, list-more, list-ind}
 
 -- ---- decimals
 

@@ -12,19 +12,19 @@ use borrow.Author.Tests.{eqb-true, eqb-false, eq-eqb, ne-eqb}
 use Rattle.finite.proofs.Stores.{sets-append}
 use Rattle.reader.specs.Number.{cursor}
 use Rattle.reader.specs.Form.{onNext}
-use Rattle.text.specs.List.{Numbers, none, firstBeyond, anchor}
-use Rattle.text.specs.Line.{ridersAt, riderAt, retainedAt, roundsAt, numberOfForm, keptForm, keptList}
+use Rattle.lines.specs.List.{Numbers, none, firstBeyond, anchor}
+use Rattle.lines.specs.Line.{ridersAt, riderAt, retainedAt, roundsAt, numberOfForm, keptForm, keptList}
 use Rattle.text.specs.Text.{Lists, moreLists, riderLinesFrom, riderLinesAt, startsFrom, startsOf, riderLinesOf, restOf, readingOf, riderLinesRead, retainedLineRead, startsRead, linksRead, retainedRead}
 use Rattle.reader.specs.declared.number.Cursor.{Cursor}
 use Rattle.reader.specs.declared.number.Number.{Number}
 use Rattle.reader.specs.declared.form.Next.{Next}
-use Rattle.text.specs.declared.line.Form.{Form}
-use Rattle.text.specs.declared.line.Line.{Line}
-use Rattle.text.specs.declared.line.LineRead.{LineRead}
+use Rattle.lines.specs.declared.line.Form.{Form}
+use Rattle.lines.specs.declared.line.Line.{Line}
+use Rattle.lines.specs.declared.line.LineRead.{LineRead}
 use Rattle.text.specs.declared.read.RiderLines.{RiderLines}
 use Rattle.text.specs.declared.read.Summary.{Summary}
 use Rattle.text.specs.declared.read.Reading.{Reading}
-use Rattle.text.proofs.Lines.{list-kept, list-line-departs, form-kept, form-departs, RiderDone, rider-long}
+use Rattle.lines.proofs.Lines.{list-kept, list-line-departs, form-kept, form-departs, RiderDone, rider-long}
 
 -- ---- one rider's line more
 

@@ -8,8 +8,8 @@ use Rattle.finite.specs.Count.{tabulate, below}
 use Rattle.finite.specs.Search.{all, ascending}
 use Rattle.reader.specs.Number.{digits, numberOf}
 use Rattle.reader.specs.Form.{begins, formAt}
-use Rattle.text.specs.List.{listFrom, listAt}
-use Rattle.text.specs.Line.{riderAt, retainedAt}
+use Rattle.lines.specs.List.{listFrom, listAt}
+use Rattle.lines.specs.Line.{riderAt, retainedAt}
 use Rattle.text.specs.Text.{riderLinesFrom, startsFrom, restOf, readingOf, riderLinesRead, retainedLineRead, startsRead, linksRead, retainedRead}
 use Rattle.text.specs.Spelling.{spelledList, ridersLine, riderLine, retainedLine, roundsLine, riderLines, Content, linesOf, spell}
 use Rattle.text.specs.declared.read.Reading.{Reading}

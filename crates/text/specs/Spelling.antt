@@ -6,7 +6,7 @@ use lib.Dec.{T}
 use Rattle.finite.specs.Bytes.{bytes, decimal}
 use Rattle.finite.specs.Count.{In}
 use Rattle.finite.specs.Search.{ascending as ascends}
-use Rattle.text.specs.List.{firstBeyond}
+use Rattle.lines.specs.List.{firstBeyond}
 use Rattle.text.specs.Text.{riderLinesRead, retainedRead}
 use Rattle.text.specs.declared.read.Summary.{Summary}
 

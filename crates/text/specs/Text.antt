@@ -6,8 +6,8 @@ use lib.ListN.{length}
 use lib.Dec.{eqb}
 use Rattle.reader.specs.Number.{cursor, onNumber}
 use Rattle.reader.specs.Form.{onNext}
-use Rattle.text.specs.List.{Numbers, none, firstBeyond}
-use Rattle.text.specs.Line.{ridersAt, riderAt, retainedAt, roundsAt}
+use Rattle.lines.specs.List.{Numbers, none, firstBeyond}
+use Rattle.lines.specs.Line.{ridersAt, riderAt, retainedAt, roundsAt}
 use Rattle.reader.specs.declared.form.Next.{Next}
 use Rattle.text.specs.declared.read.RiderLines.{RiderLines}
 use Rattle.text.specs.declared.read.Reading.{Reading}

@@ -4,16 +4,16 @@ ghost use mathlib.Core.List.{flatten};
 ghost use Prim.Native.Nat.{_≤_};
 ghost use lib.ListN.{length};
 ghost use lib.Seq.{sets};
-ghost use Rattle.text.specs.List.{anchor};
-ghost use Rattle.text.specs.Line.{retainedAt};
+ghost use Rattle.lines.specs.List.{anchor};
+ghost use Rattle.lines.specs.Line.{retainedAt};
 ghost use Rattle.text.specs.Text.{riderLinesAt, riderLinesOf, startsOf, restOf, readingOf, startsRead, linksRead, retainedRead};
-use crate::line::LineRead;
-use crate::line::number_of;
-use crate::line::retained_line;
-use crate::line::rider_line;
-use crate::line::riders_line;
-use crate::line::rounds_line;
-use crate::list::store;
+use lines::line::LineRead;
+use lines::line::number_of;
+use lines::line::retained_line;
+use lines::line::rider_line;
+use lines::line::riders_line;
+use lines::line::rounds_line;
+use lines::list::store;
 use reader::number::Cursor;
 
 // All the riders' lines: the number of links and the cursor after them, or the first line that departs.
