@@ -35,9 +35,9 @@ pub fn table(lines: &[Line], seeds: usize) -> String {
 
 /// A bar for each line on a scale of powers of ten, from 1/1,000 to 1,000; the middle line is "as fast as the other".
 pub fn plot(lines: &[Line]) -> String {
-    let (left, unit, row) = (20.0, 110.0, 58.0);
+    let (left, unit, row) = (30.0, 110.0, 58.0);
     let at = |ratio: f64| left + (ratio.log10().clamp(-3.0, 3.0) + 3.0) * unit;
-    let (width, height) = (at(1000.0) + 20.0, 50.0 + row * lines.len() as f64);
+    let (width, height) = (at(1000.0) + 30.0, 50.0 + row * lines.len() as f64);
     let mut out = format!("<svg xmlns=\"http://www.w3.org/2000/svg\" width=\"{width}\" height=\"{height}\" font-family=\"sans-serif\" font-size=\"11\">\n");
     writeln!(out, "<rect width=\"100%\" height=\"100%\" fill=\"white\"/>").unwrap();
     for power in -3..=3 {
@@ -51,6 +51,8 @@ pub fn plot(lines: &[Line]) -> String {
         let (from, to) = (at(1.0).min(at(middle)), at(1.0).max(at(middle)));
         writeln!(out, "<rect x=\"{from}\" y=\"{}\" width=\"{}\" height=\"12\" fill=\"#4878a8\"/>", y + 28.0, to - from).unwrap();
         writeln!(out, "<line x1=\"{}\" y1=\"{1}\" x2=\"{2}\" y2=\"{1}\" stroke=\"black\" stroke-width=\"2\"/>", at(least), y + 34.0, at(most)).unwrap();
+        // the labels stand on white, so that no line of the scale runs through them
+        writeln!(out, "<rect x=\"0\" y=\"{y}\" width=\"100%\" height=\"28\" fill=\"white\"/>").unwrap();
         writeln!(out, "<text x=\"{left}\" y=\"{}\">{middle:.2}: {}</text>", y + 11.0, line.ours).unwrap();
         writeln!(out, "<text x=\"{left}\" y=\"{}\" fill=\"#555\">against {}</text>", y + 24.0, line.theirs).unwrap();
     }
