@@ -1,102 +1,47 @@
-// Runs the text-to-sheet call at its limits and on texts that it refuses, and prints each answer.
+// Runs the text-to-sheet call on the cases of standard input, `NAME: ROOM:TEXT` each, parted by semicolons: at its limits, and on
+// texts that it refuses; then on bytes past the greatest size.
 use answer::Answered;
-use libc::STDOUT_FILENO;
+use cases::print::text;
+use cases::read::field;
+use libc::STDIN_FILENO;
 
 // Prints `NAME: sheet of SIZE bytes` or `NAME: refused NUMBER PLACE`.
 fn show(name: &[u8], answer: Answered) {
-    io::write_all(STDOUT_FILENO, name);
     match answer {
         Answered::Sheet(size) => {
-            io::write_all(STDOUT_FILENO, b": sheet of ");
-            io::print_decimal(STDOUT_FILENO, size as u64);
-            io::write_all(STDOUT_FILENO, b" bytes\n");
+            text(name);
+            text(b": sheet of");
+            cases::print::number(size);
+            text(b" bytes\n");
         }
-        Answered::Refused(refusal) => {
-            io::write_all(STDOUT_FILENO, b": refused ");
-            io::print_decimal(STDOUT_FILENO, refusal.number as u64);
-            io::write_all(STDOUT_FILENO, b" ");
-            io::print_decimal(STDOUT_FILENO, refusal.place as u64);
-            io::write_all(STDOUT_FILENO, b"\n");
-        }
+        Answered::Refused(refusal) => cases::print::refusal(name, b":", refusal),
     }
 }
 
-// The call with room for every sheet.
-fn try_text(name: &[u8], text: &[u8]) {
+fn run(case: &[u8]) {
     let mut sheet = [0u8; 64320];
-    let answer = answer::text_to_sheet(text, &mut sheet);
-    show(name, answer);
+    let size = cases::read::value(field(case, b':', 1));
+    let room = io::count(size as isize, &sheet);
+    let answer = answer::text_to_sheet(field(case, b':', 2), &mut sheet[..room]);
+    show(field(case, b':', 0), answer);
 }
 
-// The call with room for 98 bytes, two lines over one rider.
-fn try_short(name: &[u8], text: &[u8]) {
-    let mut sheet = [0u8; 98];
-    let answer = answer::text_to_sheet(text, &mut sheet);
-    show(name, answer);
+fn run_cases(texts: &[u8]) {
+    for k in 0..15 {
+        run(field(texts, b';', k));
+    }
 }
 
-// The call on bytes past the greatest size.
-fn try_long() {
-    let text = [b'x'; 65537];
+fn run_long() {
+    let long = [b'x'; 65537];
     let mut sheet = [0u8; 48];
-    let answer = answer::text_to_sheet(&text, &mut sheet);
+    let answer = answer::text_to_sheet(&long, &mut sheet);
     show(b"65,537 bytes", answer);
 }
 
 fn main() {
-    try_text(b"no riders", b"(riders 0)\n(retained)\n(rounds 1)\n");
-    try_text(
-        b"60 rounds",
-        b"(riders 1)\n(rider 0 (with))\n(retained)\n(rounds 60)\n",
-    );
-    try_text(
-        b"61 rounds",
-        b"(riders 1)\n(rider 0 (with))\n(retained)\n(rounds 61)\n",
-    );
-    try_short(
-        b"room for two lines",
-        b"(riders 1)\n(rider 0 (with))\n(retained)\n(rounds 2)\n",
-    );
-    try_short(
-        b"room for two of three",
-        b"(riders 1)\n(rider 0 (with))\n(retained)\n(rounds 3)\n",
-    );
-    try_short(
-        b"room before name",
-        b"(riders 1)\n(rider 0 (with))\n(retained 7)\n(rounds 3)\n",
-    );
-    try_text(
-        b"name",
-        b"(riders 1)\n(rider 0 (with))\n(retained 0 7)\n(rounds 1)\n",
-    );
-    try_text(
-        b"no such partner",
-        b"(riders 1)\n(rider 0 (with 1))\n(retained)\n(rounds 1)\n",
-    );
-    try_text(
-        b"own partner",
-        b"(riders 1)\n(rider 0 (with 0))\n(retained)\n(rounds 1)\n",
-    );
-    try_text(
-        b"partners not ascending",
-        b"(riders 3)\n(rider 0 (with 2 1))\n(rider 1 (with 0))\n(rider 2 (with 0))\n(retained)\n(rounds 1)\n",
-    );
-    try_text(
-        b"not listed",
-        b"(riders 2)\n(rider 0 (with))\n(rider 1 (with 0))\n(retained)\n(rounds 1)\n",
-    );
-    try_text(
-        b"leading zero",
-        b"(riders 01)\n(rider 0 (with))\n(retained)\n(rounds 1)\n",
-    );
-    try_text(
-        b"missing line",
-        b"(riders 1)\n(rider 0 (with))\n(retained)\n",
-    );
-    try_text(b"extra line", b"(riders 0)\n(retained)\n(rounds 1)\n\n");
-    try_text(
-        b"retained not ascending",
-        b"(riders 2)\n(rider 0 (with))\n(rider 1 (with))\n(retained 1 0)\n(rounds 1)\n",
-    );
-    try_long();
+    let mut texts = [0u8; 2048];
+    let read = io::read_full(STDIN_FILENO, &mut texts);
+    run_cases(&texts[..read]);
+    run_long();
 }

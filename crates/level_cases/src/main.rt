@@ -1,137 +1,82 @@
-// Works the pools C to H of document 01, and a star whose hub is anchored, lists their components, searches from every vertex, and
-// checks the sheet and every sheet with one entry off by one. Then a refusal of each kind that comes after the table's.
-use components::Listed;
-use libc::STDOUT_FILENO;
-use search::Searched;
-use table::Checked;
+// Works the pool of each line of standard input, lists its components, and checks the line's sheet and every sheet that has one
+// entry of it off by one. A line is `NAME: STARTS: LINKS: ANCHORED: LEVELS: LAYERS: COMPONENTS`, the last what the components' slice
+// holds before: the pools C to H of document 01, a star whose hub is anchored, and a refusal of each kind after the table's.
+ghost use mathlib.Core.Path.{_≡_};
 ghost use Prim.Native.Nat.{_≤_};
 ghost use lib.ListN.{length};
+use cases::read::field;
+use cases::read::numbers;
+use components::Listed;
+use components::list_components;
+use libc::STDIN_FILENO;
+use table::Checked;
 
-fn print(text: &[u8]) {
-    io::write_all(STDOUT_FILENO, text);
-}
-
-fn print_number(number: usize) {
-    io::write_all(STDOUT_FILENO, b" ");
-    io::print_decimal(STDOUT_FILENO, number as u64);
-}
-
-fn print_refusal(refusal: table::Refusal) {
-    print(b" refused");
-    print_number(refusal.number as usize);
-    print_number(refusal.place);
-    print(b"\n");
-}
-
-fn print_answer(answer: Checked) {
-    match answer {
-        Checked::Sound => print(b" sound\n"),
-        Checked::Refused(refusal) => print_refusal(refusal),
-    }
-}
-
-fn print_row(name: &[u8], title: &[u8], row: &[u16]) {
-    print(name);
-    print(title);
-    let mut i: usize = 0;
-    while i < row.len() {
-        print_number(row[i] as usize);
-        i += 1;
-    }
-    print(b"\n");
-}
-
-fn print_marks(marks: &[u8]) {
-    print(b" marks");
-    let mut v: usize = 0;
-    while v < marks.len() {
-        print_number(marks[v] as usize);
-        v += 1;
-    }
-}
-
-// The list's slices, which held 7 in every place.
-fn list(name: &[u8], starts: &[u16], links: &[u16], anchored: &[u8]) {
+// The components' slice holds the line's last field before, the others 7 in every place.
+fn work(name: &[u8], starts: &[u16], links: &[u16], anchored: &[u8], components: &mut [u16]) {
     let mut levels = [7u16; 4];
-    let mut sizes = [7u16; 4];
-    let mut numbers = [7u16; 4];
-    let answer = components::list_components(
+    let mut layers = [7u16; 4];
+    let answer = level::work::work(
         starts,
         links,
         anchored,
         &mut levels,
-        &mut sizes,
-        &mut numbers,
+        &mut layers,
+        components,
     );
-    match answer {
-        Listed::Count(count) => {
-            print(name);
-            print(b" list of");
-            print_number(count);
-            print(b"\n");
-        }
-        Listed::Refused(refusal) => print_refusal(refusal),
-    }
-    print_row(name, b" list levels", &levels);
-    print_row(name, b" list sizes", &sizes);
-    print_row(name, b" list numbers", &numbers);
+    cases::print::answer(name, b"", answer);
+    cases::print::rows(
+        name,
+        b" levels: layers: components",
+        &levels,
+        &layers,
+        components,
+    );
 }
 
-// The marks of the search from x, which held 7 in every place, and its counts.
-fn search(
-    name: &[u8],
-    starts: &[u16],
-    links: &[u16],
-    anchored: &[u8],
-    levels: &[u16],
-    layers: &[u16],
-    x: usize,
-) {
-    let mut marks = [7u8; 4];
-    print(name);
-    print(b" from");
-    print_number(x);
-    let answer = search::followers(starts, links, anchored, levels, layers, x, &mut marks);
-    print_marks(&marks);
+fn print_listed(name: &[u8], answer: Listed) {
     match answer {
-        Searched::Found(lifted, reached) => {
-            print(b" lifted");
-            print_number(lifted);
-            print(b" reached");
-            print_number(reached);
-            print(b"\n");
-        }
-        Searched::Refused(refusal) => print_refusal(refusal),
+        Listed::Count(count) => cases::print::count(name, b" list of", count),
+        Listed::Refused(refusal) => cases::print::refusal(name, b" list", refusal),
     }
 }
 
-fn search_all(
-    name: &[u8],
-    starts: &[u16],
-    links: &[u16],
-    anchored: &[u8],
-    levels: &[u16],
-    layers: &[u16],
-) {
-    search(name, starts, links, anchored, levels, layers, 0);
-    search(name, starts, links, anchored, levels, layers, 1);
-    search(name, starts, links, anchored, levels, layers, 2);
-    search(name, starts, links, anchored, levels, layers, 3);
+// The list's slices hold 7 in every place before.
+fn list(name: &[u8], starts: &[u16], links: &[u16], anchored: &[u8]) {
+    let mut levels = [7u16; 4];
+    let mut sizes = [7u16; 4];
+    let mut heads = [7u16; 4];
+    let answer = list_components(starts, links, anchored, &mut levels, &mut sizes, &mut heads);
+    print_listed(name, answer);
+    cases::print::rows(
+        name,
+        b" list levels: list sizes: list numbers",
+        &levels,
+        &sizes,
+        &heads,
+    );
 }
 
-// The check of a sheet whose levels and layers stand in one slice.
-fn check_sheet(starts: &[u16], links: &[u16], anchored: &[u8], sheet: &[u16]) -> Checked
-    requires { ⌜ 4 ≤ length (now sheet) ⌝ }
+// A row with one entry off by one: one more for i below 4, one less above.
+fn off(mut row: [u16; 4], i: usize) -> [u16; 4]
+    ensures { λ r. ⌜ 4 ≡ length r ⌝ }
 {
-    level::sheet::check_sheet(starts, links, anchored, &sheet[..4], &sheet[4..])
+    let v = i % 4;
+    let change = if i < 4 { 1 } else { 65535 };
+    row[v] = std::num::wrapping_add_u16(row[v], change);
+    row
 }
 
-// 1 if it is refused with 14.
-fn refused(starts: &[u16], links: &[u16], anchored: &[u8], sheet: &[u16]) -> usize
-    requires { ⌜ 4 ≤ length (now sheet) ⌝ }
+// 1 if the sheet is refused with 14.
+fn refused(
+    starts: &[u16],
+    links: &[u16],
+    anchored: &[u8],
+    levels: [u16; 4],
+    layers: [u16; 4],
+) -> usize
     ensures { λ r. ⌜ r ≤ 1 ⌝ }
 {
-    let answer = check_sheet(starts, links, anchored, sheet);
+    let answer = level::sheet::check_sheet(starts, links, anchored, &levels, &layers);
     match answer {
         Checked::Sound => 0,
         Checked::Refused(refusal) => {
@@ -143,226 +88,73 @@ fn refused(starts: &[u16], links: &[u16], anchored: &[u8], sheet: &[u16]) -> usi
     }
 }
 
-fn one_more(entry: u16) -> u16 {
-    if entry == 65535 { 0 } else { entry + 1 }
-}
-
-fn one_less(entry: u16) -> u16 {
-    if entry == 0 { 65535 } else { entry - 1 }
-}
-
-// How many of the sheets with one entry off by one are refused.
-fn count_refused(starts: &[u16], links: &[u16], anchored: &[u8], sheet: &mut [u16]) -> usize
-    requires { ⌜ 4 ≤ length (now sheet) ⌝ }
-{
+// How many of the sheets with one entry off by one are refused; a missing entry counts as 0.
+fn count_refused(
+    starts: &[u16],
+    links: &[u16],
+    anchored: &[u8],
+    levels: [u16; 4],
+    layers: [u16; 4],
+) -> usize {
     let mut count: usize = 0;
-    let mut i: usize = 0;
-    while i < sheet.len() {
-        let entry = sheet[i];
-        sheet[i] = one_more(entry);
-        count += refused(starts, links, anchored, sheet);
-        sheet[i] = one_less(entry);
-        count += refused(starts, links, anchored, sheet);
-        sheet[i] = entry;
-        i += 1;
+    for i in 0..8 {
+        count += refused(starts, links, anchored, off(levels, i), layers);
+        count += refused(starts, links, anchored, levels, off(layers, i));
     }
     count
 }
 
-fn check(name: &[u8], starts: &[u16], links: &[u16], anchored: &[u8], sheet: &mut [u16])
-    requires { ⌜ 4 ≤ length (now sheet) ⌝ }
-{
-    print(name);
-    print(b" sheet");
-    print_answer(check_sheet(starts, links, anchored, sheet));
-    print(name);
-    print(b" sheets one off, refused");
-    print_number(count_refused(starts, links, anchored, sheet));
-    print(b"\n");
+fn check(line: &[u8], starts: &[u16], links: &[u16], anchored: &[u8]) {
+    let name = field(line, b':', 0);
+    let mut levels = [0u16; 4];
+    let mut layers = [0u16; 4];
+    let n = numbers(field(line, b':', 4), &mut levels);
+    let m = numbers(field(line, b':', 5), &mut layers);
+    cases::print::answer(
+        name,
+        b" sheet",
+        level::sheet::check_sheet(starts, links, anchored, &levels[..n], &layers[..m]),
+    );
+    cases::print::count(
+        name,
+        b" sheets one off, refused",
+        count_refused(starts, links, anchored, levels, layers),
+    );
 }
 
-fn run(name: &[u8], starts: &[u16], links: &[u16], anchored: &[u8]) {
-    let mut levels = [7u16; 4];
-    let mut layers = [7u16; 4];
-    let mut components = [7u16; 4];
-    print(name);
-    print_answer(level::work::work(
-        starts,
-        links,
-        anchored,
-        &mut levels,
-        &mut layers,
-        &mut components,
-    ));
-    print_row(name, b" levels", &levels);
-    print_row(name, b" layers", &layers);
-    print_row(name, b" components", &components);
+fn run(line: &[u8], starts: &[u16], links: &[u16], anchored: &[u8], components: &mut [u16]) {
+    let name = field(line, b':', 0);
+    work(name, starts, links, anchored, components);
     list(name, starts, links, anchored);
-    search_all(name, starts, links, anchored, &levels, &layers);
-    let mut sheet = [
-        levels[0],
-        levels[1],
-        levels[2],
-        levels[3],
-        layers[0],
-        layers[1],
-        layers[2],
-        layers[3],
-    ];
-    check(name, starts, links, anchored, &mut sheet);
+    check(line, starts, links, anchored);
 }
 
-fn run_pools() {
-    run(b"C", &[0, 1, 3, 5, 6], &[1, 0, 2, 1, 3, 2], &[0, 0, 0, 0]);
-    run(b"D", &[0, 1, 3, 5, 6], &[1, 0, 2, 1, 3, 2], &[1, 0, 0, 0]);
-    run(b"E", &[0, 1, 3, 5, 6], &[1, 0, 2, 1, 3, 2], &[1, 0, 0, 1]);
+fn run_line(line: &[u8]) {
+    let mut starts = [0u16; 5];
+    let mut links = [0u16; 12];
+    let mut anchored = [0u8; 4];
+    let mut components = [0u16; 4];
+    let s = numbers(field(line, b':', 1), &mut starts);
+    let l = numbers(field(line, b':', 2), &mut links);
+    let a = cases::read::bytes(field(line, b':', 3), &mut anchored);
+    let c = numbers(field(line, b':', 6), &mut components);
     run(
-        b"F",
-        &[0, 2, 4, 6, 8],
-        &[1, 3, 0, 2, 1, 3, 0, 2],
-        &[0, 0, 0, 0],
-    );
-    run(b"G", &[0, 3, 4, 5, 6], &[1, 2, 3, 0, 0, 0], &[0, 1, 0, 0]);
-    run(
-        b"H",
-        &[0, 3, 6, 9, 12],
-        &[1, 2, 3, 0, 2, 3, 0, 1, 3, 0, 1, 2],
-        &[0, 0, 0, 0],
-    );
-    run(
-        b"star",
-        &[0, 3, 4, 5, 6],
-        &[1, 2, 3, 0, 0, 0],
-        &[1, 0, 0, 0],
+        line,
+        &starts[..s],
+        &links[..l],
+        &anchored[..a],
+        &mut components[..c],
     );
 }
 
-// A search on the chain with these bytes and this sheet.
-fn search_chain(
-    name: &[u8],
-    anchored: &[u8],
-    levels: &[u16],
-    layers: &[u16],
-    x: usize,
-    marks: &mut [u8],
-) {
-    print(name);
-    let answer = search::followers(
-        &[0, 1, 3, 5, 6],
-        &[1, 0, 2, 1, 3, 2],
-        anchored,
-        levels,
-        layers,
-        x,
-        marks,
-    );
-    print_marks(marks);
-    match answer {
-        Searched::Found(_, _) => print(b" found\n"),
-        Searched::Refused(refusal) => print_refusal(refusal),
+fn run_lines(lines: &[u8]) {
+    for k in 0..13 {
+        run_line(field(lines, b'\n', k));
     }
 }
 
-fn run_wrong_bytes() {
-    let mut marks = [7u8; 4];
-    search_chain(
-        b"bytes of 3",
-        &[0, 0, 0],
-        &[1, 1, 1, 1],
-        &[1, 2, 2, 1],
-        0,
-        &mut marks,
-    );
-    search_chain(
-        b"byte 2",
-        &[0, 0, 2, 0],
-        &[1, 1, 1, 1],
-        &[1, 2, 2, 1],
-        0,
-        &mut marks,
-    );
-}
-
-fn run_wrong_sheets() {
-    let mut marks = [7u8; 4];
-    search_chain(
-        b"levels of 3",
-        &[0, 0, 0, 0],
-        &[1, 1, 1],
-        &[1, 2, 2, 1],
-        0,
-        &mut marks,
-    );
-    search_chain(
-        b"layers of 5",
-        &[0, 0, 0, 0],
-        &[1, 1, 1, 1],
-        &[1, 2, 2, 1, 1],
-        0,
-        &mut marks,
-    );
-    search_chain(
-        b"J",
-        &[0, 0, 0, 0],
-        &[1, 1, 1, 1],
-        &[1, 2, 3, 1],
-        0,
-        &mut marks,
-    );
-}
-
-fn run_wrong_searches() {
-    let mut marks = [7u8; 4];
-    let mut few = [7u8; 3];
-    search_chain(
-        b"marks of 3, J, vertex 4",
-        &[0, 0, 0, 0],
-        &[1, 1, 1, 1],
-        &[1, 2, 3, 1],
-        4,
-        &mut few,
-    );
-    search_chain(
-        b"J, vertex 4",
-        &[0, 0, 0, 0],
-        &[1, 1, 1, 1],
-        &[1, 2, 3, 1],
-        4,
-        &mut marks,
-    );
-    search_chain(
-        b"vertex 4",
-        &[0, 0, 0, 0],
-        &[1, 1, 1, 1],
-        &[1, 2, 2, 1],
-        4,
-        &mut marks,
-    );
-}
-
-// The chain worked into a slice that is one too short.
-fn run_short_work() {
-    let mut levels = [7u16; 4];
-    let mut layers = [7u16; 4];
-    let mut components = [7u16; 3];
-    print(b"components of 3");
-    print_answer(level::work::work(
-        &[0, 1, 3, 5, 6],
-        &[1, 0, 2, 1, 3, 2],
-        &[0, 0, 0, 0],
-        &mut levels,
-        &mut layers,
-        &mut components,
-    ));
-    print_row(b"components of 3", b" levels", &levels);
-    print_row(b"components of 3", b" layers", &layers);
-    print_row(b"components of 3", b" components", &components);
-}
-
 fn main() {
-    run_pools();
-    run_short_work();
-    run_wrong_bytes();
-    run_wrong_sheets();
-    run_wrong_searches();
+    let mut lines = [0u8; 1024];
+    let read = io::read_full(STDIN_FILENO, &mut lines);
+    run_lines(&lines[..read]);
 }

@@ -1,0 +1,67 @@
+// Lines on standard output, each behind the name of its case and a title.
+use libc::STDOUT_FILENO;
+use table::Checked;
+use table::Refusal;
+
+pub fn text(bytes: &[u8]) {
+    io::write_all(STDOUT_FILENO, bytes);
+}
+
+// ` NUMBER`.
+pub fn number(value: usize) {
+    text(b" ");
+    io::print_decimal(STDOUT_FILENO, value as u64);
+}
+
+// `NAME TITLE NUMBER`.
+pub fn count(name: &[u8], title: &[u8], value: usize) {
+    text(name);
+    text(title);
+    number(value);
+    text(b"\n");
+}
+
+// `NAME TITLE refused NUMBER PLACE`.
+pub fn refusal(name: &[u8], title: &[u8], refused: Refusal) {
+    text(name);
+    text(title);
+    text(b" refused");
+    number(refused.number as usize);
+    number(refused.place);
+    text(b"\n");
+}
+
+// `NAME TITLE sound`, or the refusal.
+pub fn answer(name: &[u8], title: &[u8], answered: Checked) {
+    match answered {
+        Checked::Sound => {
+            text(name);
+            text(title);
+            text(b" sound\n");
+        }
+        Checked::Refused(refused) => refusal(name, title, refused),
+    }
+}
+
+// `NAME TITLE NUMBER NUMBER`; of a longer row the first eight numbers.
+pub fn row(name: &[u8], title: &[u8], numbers: &[u16]) {
+    text(name);
+    text(title);
+    let mut i: usize = 0;
+    while i < numbers.len() {
+        if i == 8 {
+            text(b" ..\n");
+            return;
+        }
+        number(numbers[i] as usize);
+        i += 1;
+    }
+    text(b"\n");
+}
+
+// Three rows, their titles parted by colons.
+pub fn rows(name: &[u8], titles: &[u8], first: &[u16], second: &[u16], third: &[u16]) {
+    row(name, crate::read::field(titles, b':', 0), first);
+    row(name, crate::read::field(titles, b':', 1), second);
+    row(name, crate::read::field(titles, b':', 2), third);
+}

@@ -1,0 +1,87 @@
+// The follower search of each line of standard input, `NAME: STARTS: LINKS: ANCHORED: LEVELS: LAYERS: X: MARKS`, the last what the
+// marks' slice holds before: from every vertex of the pools C to H of document 01 and of a star whose hub is anchored, and a refusal
+// of each kind after the table's.
+use cases::print::number;
+use cases::print::text;
+use cases::read::bytes;
+use cases::read::field;
+use cases::read::numbers;
+use libc::STDIN_FILENO;
+use search::Searched;
+
+fn print_marks(name: &[u8], marks: &[u8]) {
+    text(name);
+    text(b" marks");
+    let mut v: usize = 0;
+    while v < marks.len() {
+        number(marks[v] as usize);
+        v += 1;
+    }
+}
+
+fn print_found(answer: Searched) {
+    match answer {
+        Searched::Found(lifted, reached) => {
+            text(b" lifted");
+            number(lifted);
+            cases::print::count(b" reached", b"", reached);
+        }
+        Searched::Refused(refusal) => cases::print::refusal(b"", b"", refusal),
+    }
+}
+
+fn search(
+    name: &[u8],
+    starts: &[u16],
+    links: &[u16],
+    anchored: &[u8],
+    levels: &[u16],
+    layers: &[u16],
+    x: usize,
+    marks: &mut [u8],
+) {
+    let answer = search::followers(starts, links, anchored, levels, layers, x, marks);
+    print_marks(name, marks);
+    print_found(answer);
+}
+
+fn run(line: &[u8], starts: &[u16], links: &[u16], anchored: &[u8]) {
+    let mut levels = [0u16; 4];
+    let mut layers = [0u16; 5];
+    let mut marks = [0u8; 4];
+    let n = numbers(field(line, b':', 4), &mut levels);
+    let m = numbers(field(line, b':', 5), &mut layers);
+    let room = bytes(field(line, b':', 7), &mut marks);
+    search(
+        field(line, b':', 0),
+        starts,
+        links,
+        anchored,
+        &levels[..n],
+        &layers[..m],
+        cases::read::value(field(line, b':', 6)) as usize,
+        &mut marks[..room],
+    );
+}
+
+fn run_line(line: &[u8]) {
+    let mut starts = [0u16; 5];
+    let mut links = [0u16; 12];
+    let mut anchored = [0u8; 4];
+    let s = numbers(field(line, b':', 1), &mut starts);
+    let l = numbers(field(line, b':', 2), &mut links);
+    let a = bytes(field(line, b':', 3), &mut anchored);
+    run(line, &starts[..s], &links[..l], &anchored[..a]);
+}
+
+fn run_lines(lines: &[u8]) {
+    for k in 0..36 {
+        run_line(field(lines, b'\n', k));
+    }
+}
+
+fn main() {
+    let mut lines = [0u8; 4096];
+    let read = io::read_full(STDIN_FILENO, &mut lines);
+    run_lines(&lines[..read]);
+}

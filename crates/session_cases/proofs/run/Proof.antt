@@ -1,0 +1,186 @@
+-- `run` meets its contract: the lent parts have the lengths that are said, and the arrays theirs. Assumes nothing.
+use mathlib.Core.Path.{_≡_, sym, _∙_}
+use mathlib.Core.List.{List, _++_}
+use Prim.Native.Nat.{ℕ, _≤_}
+use native.Mathlib.Omega.{arith}
+use lib.ListN.{length, take, drop, length-append, length-drop}
+use lib.Seq.{length-take-le}
+use borrow.Author.Needs.{needs}
+use Rattle.session_cases.proofs.run.Statement.{statement}
+use Rattle.session_cases.proofs.run.Tie as tie
+
+-- a lent part is as long as is said
+lent : (n : ℕ) (row : List ℕ) → n ≤ length row → n ≡ length (take n row)
+lent n row h = sym (length-take-le _ _ h)
+
+-- an array is as long as before when its lent part is back
+back : (n : ℕ) (part row : List ℕ) → n ≤ length row → length part ≡ length (take n row) → length row ≡ length (part ++ drop n row)
+back n part row h e = let l = e ∙ length-take-le n row h in simp (length-append, length-drop) (omega arith)
+
+abbrev first : tie.After-run → tie.Start
+first c = c .before .before .before .before .before .before .before .before .before .before .before .before .before .before .before
+
+array-borrow-prefix-anchored : tie.Need-array-borrow-prefix-anchored
+array-borrow-prefix-anchored c = search needs
+
+slice-aggregate-run : tie.Need-slice-aggregate-run
+slice-aggregate-run c = lent _ _ (c .before .before .before .before .before .before .pre .0)
+
+array-borrow-prefix-levels : tie.Need-array-borrow-prefix-levels
+array-borrow-prefix-levels c = search needs
+
+slice-aggregate-run-2 : tie.Need-slice-aggregate-run-2
+slice-aggregate-run-2 c = lent _ _ (c .before .before .before .before .before .before .before .pre .0)
+
+array-borrow-prefix-layers : tie.Need-array-borrow-prefix-layers
+array-borrow-prefix-layers c = search needs
+
+slice-aggregate-run-3 : tie.Need-slice-aggregate-run-3
+slice-aggregate-run-3 c = lent _ _ (c .before .before .before .before .before .before .before .before .pre .0)
+
+array-borrow-prefix-components : tie.Need-array-borrow-prefix-components
+array-borrow-prefix-components c = search needs
+
+slice-aggregate-run-4 : tie.Need-slice-aggregate-run-4
+slice-aggregate-run-4 c = lent _ _ (c .before .before .before .before .before .before .before .before .before .pre .0)
+
+array-borrow-prefix-followers : tie.Need-array-borrow-prefix-followers
+array-borrow-prefix-followers c = search needs
+
+slice-aggregate-run-5 : tie.Need-slice-aggregate-run-5
+slice-aggregate-run-5 c = lent _ _ (c .before .before .before .before .before .before .before .before .before .before .pre .0)
+
+array-borrow-prefix-stamps : tie.Need-array-borrow-prefix-stamps
+array-borrow-prefix-stamps c = search needs
+
+slice-aggregate-run-6 : tie.Need-slice-aggregate-run-6
+slice-aggregate-run-6 c = lent _ _ (c .before .before .before .before .before .before .before .before .before .before .before .pre .0)
+
+array-borrow-prefix-status : tie.Need-array-borrow-prefix-status
+array-borrow-prefix-status c = search needs
+
+slice-aggregate-run-7 : tie.Need-slice-aggregate-run-7
+slice-aggregate-run-7 c = lent _ _ (c .before .before .before .before .before .before .before .before .before .before .before .before .pre .1)
+
+array-borrow-prefix-lifted : tie.Need-array-borrow-prefix-lifted
+array-borrow-prefix-lifted c = search needs
+
+slice-aggregate-run-8 : tie.Need-slice-aggregate-run-8
+slice-aggregate-run-8 c = lent _ _ (c .before .before .before .before .before .before .before .before .before .before .before .before .before .pre .1)
+
+array-borrow-prefix-redone : tie.Need-array-borrow-prefix-redone
+array-borrow-prefix-redone c = search needs
+
+slice-aggregate-run-9 : tie.Need-slice-aggregate-run-9
+slice-aggregate-run-9 c = lent _ _ (c .before .before .before .before .before .before .before .before .before .before .before .before .before .before .pre .1)
+
+run-requires : tie.Need-run-requires
+run-requires c κs = search needs
+
+slice-aggregate-answer : tie.Need-slice-aggregate-answer
+slice-aggregate-answer c = search needs
+
+answer-requires : tie.Need-answer-requires
+answer-requires c κs = search needs
+
+slice-aggregate-rows : tie.Need-slice-aggregate-rows
+slice-aggregate-rows c = search needs
+
+slice-aggregate-rows-2 : tie.Need-slice-aggregate-rows-2
+slice-aggregate-rows-2 c =
+    let at = c .before .before .before .before .before .before .before .before .before .before .before .before .before in
+    back _ (at .run .last .1 .1 .1 .1 .1 .1 .1 .1 .1 .1 .0) _ (first at .pre .1) (at .run .kept .1 .1 .1 .1 .1 .1 .1 .1 .1 .1 .0)
+
+slice-aggregate-rows-3 : tie.Need-slice-aggregate-rows-3
+slice-aggregate-rows-3 c =
+    let at = c .before .before .before .before .before .before .before .before .before .before .before .before .before .before in
+    back _ (at .run .last .1 .1 .1 .1 .1 .1 .1 .1 .1 .1 .1 .0) _ (first at .pre .1) (at .run .kept .1 .1 .1 .1 .1 .1 .1 .1 .1 .1 .1 .0)
+
+rows-requires : tie.Need-rows-requires
+rows-requires c κs = search needs
+
+slice-aggregate-rows-4 : tie.Need-slice-aggregate-rows-4
+slice-aggregate-rows-4 c = search needs
+
+slice-aggregate-rows-5 : tie.Need-slice-aggregate-rows-5
+slice-aggregate-rows-5 c =
+    let at = c .before .before .before .before .before .before .before .before .before .before .before .before .before .before .before .before .before in
+    back _ (at .run .last .1 .1 .1 .1 .1 .1 .1 .1 .1 .1 .1 .1 .0) _ (first at .pre .1) (at .run .kept .1 .1 .1 .1 .1 .1 .1 .1 .1 .1 .1 .1 .0)
+
+slice-aggregate-rows-6 : tie.Need-slice-aggregate-rows-6
+slice-aggregate-rows-6 c =
+    let at = c .before .before .before .before .before .before .before .before .before .before .before .before .before .before .before .before .before .before in
+    back _ (at .run .last .1 .1 .1 .1 .1 .1 .1 .1 .1 .0) _ (first at .pre .0) (at .run .kept .1 .1 .1 .1 .1 .1 .1 .1 .1 .0)
+
+slice-aggregate-rows-7 : tie.Need-slice-aggregate-rows-7
+slice-aggregate-rows-7 c =
+    let at = c .before .before .before .before .before .before .before .before .before .before .before .before .before .before .before .before .before .before .before in
+    back _ (at .run .last .1 .1 .1 .1 .1 .0) _ (first at .pre .0) (at .run .kept .1 .1 .1 .1 .1 .0)
+
+rows-requires-2 : tie.Need-rows-requires-2
+rows-requires-2 c κs = search needs
+
+slice-aggregate-rows-8 : tie.Need-slice-aggregate-rows-8
+slice-aggregate-rows-8 c = search needs
+
+slice-aggregate-rows-9 : tie.Need-slice-aggregate-rows-9
+slice-aggregate-rows-9 c =
+    let at = c .before .before .before .before .before .before .before .before .before .before .before .before .before .before .before .before .before .before .before .before .before .before in
+    back _ (at .run .last .1 .1 .1 .1 .1 .1 .0) _ (first at .pre .0) (at .run .kept .1 .1 .1 .1 .1 .1 .0)
+
+slice-aggregate-rows-10 : tie.Need-slice-aggregate-rows-10
+slice-aggregate-rows-10 c =
+    let at = c .before .before .before .before .before .before .before .before .before .before .before .before .before .before .before .before .before .before .before .before .before .before .before in
+    back _ (at .run .last .1 .1 .1 .1 .1 .1 .1 .0) _ (first at .pre .0) (at .run .kept .1 .1 .1 .1 .1 .1 .1 .0)
+
+slice-aggregate-rows-11 : tie.Need-slice-aggregate-rows-11
+slice-aggregate-rows-11 c =
+    let at = c .before .before .before .before .before .before .before .before .before .before .before .before .before .before .before .before .before .before .before .before .before .before .before .before in
+    back _ (at .run .last .1 .1 .1 .1 .1 .1 .1 .1 .0) _ (first at .pre .0) (at .run .kept .1 .1 .1 .1 .1 .1 .1 .1 .0)
+
+rows-requires-3 : tie.Need-rows-requires-3
+rows-requires-3 c κs = search needs
+
+returns : tie.Need-returns
+returns c = search needs
+
+pub run-spec : {M : Type 1} → statement M
+run-spec =
+    tie.close
+    (tie.spec
+    array-borrow-prefix-anchored
+    slice-aggregate-run
+    array-borrow-prefix-levels
+    slice-aggregate-run-2
+    array-borrow-prefix-layers
+    slice-aggregate-run-3
+    array-borrow-prefix-components
+    slice-aggregate-run-4
+    array-borrow-prefix-followers
+    slice-aggregate-run-5
+    array-borrow-prefix-stamps
+    slice-aggregate-run-6
+    array-borrow-prefix-status
+    slice-aggregate-run-7
+    array-borrow-prefix-lifted
+    slice-aggregate-run-8
+    array-borrow-prefix-redone
+    slice-aggregate-run-9
+    run-requires
+    slice-aggregate-answer
+    answer-requires
+    slice-aggregate-rows
+    slice-aggregate-rows-2
+    slice-aggregate-rows-3
+    rows-requires
+    slice-aggregate-rows-4
+    slice-aggregate-rows-5
+    slice-aggregate-rows-6
+    slice-aggregate-rows-7
+    rows-requires-2
+    slice-aggregate-rows-8
+    slice-aggregate-rows-9
+    slice-aggregate-rows-10
+    slice-aggregate-rows-11
+    rows-requires-3
+    returns)
