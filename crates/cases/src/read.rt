@@ -43,7 +43,7 @@ pub fn field(text: &[u8], mark: u8, k: usize) -> &[u8] {
     &text[a..e]
 }
 
-// A decimal digit behind a number's others.
+// A decimal digit behind a number's others; the low four bits of its byte are its value.
 fn joined(number: u16, digit: u8) -> u16 {
     ((number as u32 * 10 + digit as u32 % 16) % 65536) as u16
 }
