@@ -12,23 +12,26 @@ use Rattle.table.specs.declared.Checked.{Checked}
 use Rattle.table.specs.declared.Checked.the-variants.{Sound, Refused}
 use Rattle.shells.specs.Input.{admitOf, Admitted}
 use Rattle.shells.proofs.Laws.{went-through, admitted}
-use Rattle.level.specs.Answers.{workOf}
+use Rattle.level.specs.Answers.{threeOf, workOf}
 
 -- where a test that fails leads to a refusal, an answer that is sound passed it
-pub passed : (b : Bool) (k p : ℕ) (rest : Checked) → cond b rest (refused k p) ≡ Sound → T b × (rest ≡ Sound)
-passed true k p rest e = (tt, e)
-passed false k p rest e = let z : _≡_ {A = ℕ} 0 1 = cc in absurd (omega arith)
+pub passed : (b : Bool) (r : Refusal) (rest : Checked) → cond b rest (Refused r) ≡ Sound → T b × (rest ≡ Sound)
+passed true r rest e = (tt, e)
+passed false r rest e = let z : _≡_ {A = ℕ} 0 1 = cc in absurd (omega arith)
+
+-- what the test of three lengths says
+pub three : (n p q r : ℕ) → T (threeOf n p q r) → (p ≡ n) × (q ≡ n) × (r ≡ n)
+three n p q r t =
+    let both = and-l (eqb p n && eqb q n) (eqb r n) t in
+    (eqb→eq p n (and-l (eqb p n) (eqb q n) both), eqb→eq q n (and-r (eqb p n) (eqb q n) both), eqb→eq r n (and-r (eqb p n && eqb q n) (eqb r n) t))
 
 module _ (s l a : List ℕ) (p q r : ℕ) where
-  abbrev of-n : Bool
-  of-n = eqb p (vertices s) && eqb q (vertices s) && eqb r (vertices s)
-
   -- refusals 1 to 10 are handed on, then the lengths decide
   pub work-refused : {x : Refusal} → admitOf s l a ≡ Refused x → workOf s l a p q r ≡ Refused x
   unfolding workOf
   work-refused e = rw (workOf, e)
 
-  pub work-lent : {b : Bool} → admitOf s l a ≡ Sound → of-n ≡ b → workOf s l a p q r ≡ cond b Sound (refused 12 0)
+  pub work-lent : {b : Bool} → admitOf s l a ≡ Sound → threeOf (vertices s) p q r ≡ b → workOf s l a p q r ≡ cond b Sound (refused 12 0)
   unfolding workOf
   work-lent e f = rw (workOf, e, f)
 
@@ -38,6 +41,5 @@ module _ (s l a : List ℕ) (p q r : ℕ) where
   work-sound e =
       let n = vertices s in
       let through = went-through (admitOf s l a) _ e in
-      let t = passed of-n 12 0 Sound (through .1) .0 in
-      let both = and-l (eqb p n && eqb q n) (eqb r n) t in
-      (admitted s l a (through .0), eqb→eq p n (and-l (eqb p n) (eqb q n) both), eqb→eq q n (and-r (eqb p n) (eqb q n) both), eqb→eq r n (and-r (eqb p n && eqb q n) (eqb r n) t))
+      let long = three n p q r (passed (threeOf n p q r) _ Sound (through .1) .0) in
+      (admitted s l a (through .0), long .0, long .1, long .2)

@@ -1,19 +1,17 @@
 -- What the acceptance of a sheet promises, in the words of the theorems. Assumes nothing.
 use mathlib.Core.Path.{_≡_}
-use mathlib.Core.Bool.{Bool, true, false, cond, _&&_}
+use mathlib.Core.Bool.{Bool, cond, _&&_}
 use mathlib.Core.List.{List}
 use Prim.Native.Nat.{ℕ}
-use native.Mathlib.Omega.{arith}
 use lib.ListN.{length, getD}
-use lib.Dec.{T, eqb, eqb→eq}
+use lib.Dec.{eqb, eqb→eq}
 use borrow.Author.Tests.{eq-eqb, ne-eqb, eqb-true, not-false}
 use Rattle.finite.specs.Count.{below}
 use Rattle.finite.specs.Search.{all}
 use Rattle.finite.proofs.Tests.{and-l, and-r}
 use Rattle.finite.proofs.Search.{all-below-e, all-below-yes}
 use Rattle.table.specs.Table.{vertices, refused, SoundTable}
-use Rattle.table.specs.declared.Refusal.{Refusal}
-use Rattle.table.specs.declared.Checked.the-variants.{Sound, Refused}
+use Rattle.table.specs.declared.Checked.the-variants.{Sound}
 use Rattle.table.proofs.Laws.{went-on}
 use Rattle.anchored.specs.Core.{level, layer}
 use Rattle.anchored.specs.Sheet.{isDefined}
@@ -21,6 +19,7 @@ use Rattle.anchored.proofs.Sheet.{local-iff}
 use Rattle.shells.specs.Input.{graphOf, anchoredBy, admitOf, Admitted}
 use Rattle.shells.proofs.Laws.{simple, went-through, admitted}
 use Rattle.level.specs.SheetCheck.{sheetOf, checkSheetOf, localOf, Accepted}
+use Rattle.level.proofs.Answers.{passed}
 
 module _ (s l a lev lay : List ℕ) where
   abbrev levels : ℕ → ℕ
@@ -38,17 +37,13 @@ module _ (s l a lev lay : List ℕ) where
   accepted e =
       let first-half = went-on _ _ _ _ e in
       let second-half = went-on _ _ _ _ (first-half .1) in
-      let each = all-below-e agrees (vertices s) (passed (all agrees (below (vertices s))) _ (second-half .1)) in
+      let each = all-below-e agrees (vertices s) (passed (all agrees (below (vertices s))) _ Sound (second-half .1) .0) in
       record {
         levels-long = eqb-true (length lev) (vertices s) (not-false (eqb (length lev) (vertices s)) (first-half .0));
         layers-long = eqb-true (length lay) (vertices s) (not-false (eqb (length lay) (vertices s)) (second-half .0));
         levels-hold = λ v h. eqb→eq (getD lev v 0) (levels v) (and-l (eqb (getD lev v 0) (levels v)) _ (each v h));
         layers-hold = λ v h. eqb→eq (getD lay v 0) (layers v) (and-r (eqb (getD lev v 0) (levels v)) _ (each v h));
       }
-    where
-      passed : (b : Bool) (r : Refusal) → cond b Sound (Refused r) ≡ Sound → T b
-      passed true r f = tt
-      passed false r f = let z : _≡_ {A = ℕ} 0 1 = cc in absurd (omega arith)
 
   -- 13: either half not n long
   pub wrong-levels : (length lev ≡ vertices s → ⊥) → sheetOf s l a lev lay ≡ refused 13 0

@@ -65,7 +65,7 @@ module _ (s l a lev lay : List ℕ) (x : ℕ) where
         let n = vertices s in
         let through = went-through (admitOf s l a) (cond (eqb m n) (startOf s l a lev lay x) (refused 12 0)) e in
         let given = admitted s l a (through .0) in
-        let room = passed (eqb m n) 12 0 _ (through .1) in
+        let room = passed (eqb m n) _ _ (through .1) in
         let started = went-through (sheetOf s l a lev lay) (cond (leb n x) (refused 15 x) (cond (anchoredBy a x) (refused 16 x) Sound)) (room .1) in
         let inside = went-on (leb n x) 15 x _ (started .1) in
         let free = went-on (anchoredBy a x) 16 x Sound (inside .1) in

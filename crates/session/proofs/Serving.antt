@@ -1,11 +1,11 @@
 -- A session served request by request: what holds when i requests are done, and what a run that is not refused promises. Assumes nothing.
 use mathlib.Core.Path.{_≡_, refl, sym, ap, _∙_, subst}
-use mathlib.Core.Bool.{Bool, true, false, cond, _&&_}
+use mathlib.Core.Bool.{Bool, cond, _&&_}
 use mathlib.Core.List.{List, [], _++_}
 use Prim.Native.Nat.{ℕ, _+_, _≤_, _<_}
 use native.Mathlib.Omega.{arith}
 use lib.ListN.{length, drop, getD, set, length-set}
-use lib.Dec.{T, ltb, eqb, eqb→eq}
+use lib.Dec.{ltb, eqb, eqb→eq}
 use borrow.Author.Tests.{lt-ltb, le-ltb, ltb-false, eqb-true, not-false}
 use Rattle.finite.specs.Count.{bit, tabulate}
 use Rattle.finite.proofs.Tests.{and-l, and-r, split, true-of, false-of, neqb}
@@ -23,6 +23,7 @@ use Rattle.shells.specs.Input.{graphOf, admitOf}
 use Rattle.shells.specs.Arrays.{Holds}
 use Rattle.shells.proofs.Laws.{went-through, admitted}
 use Rattle.level.specs.Answers.{threeOf}
+use Rattle.level.proofs.Answers.{passed, three}
 use Rattle.step.specs.Record.{Right, plainOf, rowAs}
 use Rattle.step.specs.Rows.{Stands, sessionOf}
 use Rattle.step.proofs.Steps.{stands-row, stands-more}
@@ -114,16 +115,6 @@ module _ (s l a lev lay comps fol st : List ℕ) (S : Plain) (right : Right s l 
 
 -- ---- the answer
 
--- where a test that fails leads to a refusal, an answer that is sound passed it
-passed : (b : Bool) (k p : ℕ) (rest : Checked) → cond b rest (refused k p) ≡ Sound → T b × (rest ≡ Sound)
-passed true k p rest e = (tt, e)
-passed false k p rest e = let z : _≡_ {A = ℕ} 0 1 = cc in absurd (omega arith)
-
-three : (n p q r : ℕ) → T (threeOf n p q r) → (p ≡ n) × (q ≡ n) × (r ≡ n)
-three n p q r t =
-    let both = and-l (eqb p n && eqb q n) (eqb r n) t in
-    (eqb→eq p n (and-l (eqb p n) (eqb q n) both), eqb→eq q n (and-r (eqb p n) (eqb q n) both), eqb→eq r n (and-r (eqb p n && eqb q n) (eqb r n) t))
-
 -- admission tests that there are n bytes
 admitted-bytes : (s l a : List ℕ) → admitOf s l a ≡ Sound → length a ≡ vertices s
 unfolding admitOf
@@ -165,7 +156,7 @@ module _ (s l given requests : List ℕ) (x : Slices) where
       let fits = sized n m x in
       let through = went-through (admitOf s l given) (cond (ltb 4096 m) (refused 11 0) (cond fits Sound (refused 12 0))) e in
       let few = went-on (ltb 4096 m) 11 0 (cond fits Sound (refused 12 0)) (through .1) in
-      let lent = passed fits 12 0 Sound (few .1) .0 in
+      let lent = passed fits _ Sound (few .1) .0 in
       let records = and-l six (threeOf m (length (x .status)) (length (x .lifted)) (length (x .redone))) lent in
       let first = three n _ _ _ (and-l (threeOf n (length (x .anchored)) (length (x .levels)) (length (x .layers))) (threeOf n (length (x .components)) (length (x .followers)) (length (x .stamps))) records) in
       let second = three n _ _ _ (and-r (threeOf n (length (x .anchored)) (length (x .levels)) (length (x .layers))) (threeOf n (length (x .components)) (length (x .followers)) (length (x .stamps))) records) in
