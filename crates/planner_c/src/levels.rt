@@ -5,12 +5,11 @@ ghost use Rattle.finite.specs.Count.{tabulate};
 ghost use Rattle.table.specs.Table.{vertices};
 ghost use Rattle.anchored.specs.Core.{level, layer};
 ghost use Rattle.anchored.specs.Component.{component};
-ghost use Rattle.anchored.specs.Followers.{mark};
 ghost use Rattle.shells.specs.Input.{graphOf, anchoredBy};
 ghost use Rattle.level.specs.SheetCheck.{checkSheetOf};
 ghost use Rattle.level.specs.Answers.{workOf, written};
 ghost use Rattle.components.specs.Answers.{listOf, Holding};
-ghost use Rattle.search.specs.Answers.{followersOf, marked};
+ghost use Rattle.search.specs.Answers.{followersOf, marksOf, marked};
 ghost use Rattle.numbers.specs.Numbers.{checkedAs, listedAs, searchedAs};
 use numbers::Answer;
 
@@ -70,7 +69,7 @@ pub extern "C" fn planner_followers(
     marks: &mut [u8],
 ) -> Answer
     ensures answer { λ r. ⌜ r ≡ searchedAs (followersOf (now (starts .entry)) (now (links .entry)) (now (anchored .entry)) (now (levels .entry)) (now (layers .entry)) x (length (now (marks .entry)))) ⌝ }
-    ensures marks { λ r. ⌜ now (marks .exit) ≡ marked (followersOf (now (starts .entry)) (now (links .entry)) (now (anchored .entry)) (now (levels .entry)) (now (layers .entry)) x (length (now (marks .entry)))) (tabulate (mark (graphOf (now (starts .entry)) (now (links .entry))) (anchoredBy (now (anchored .entry))) x) (vertices (now (starts .entry)))) (now (marks .entry)) ⌝ }
+    ensures marks { λ r. ⌜ now (marks .exit) ≡ marked (followersOf (now (starts .entry)) (now (links .entry)) (now (anchored .entry)) (now (levels .entry)) (now (layers .entry)) x (length (now (marks .entry)))) (marksOf (now (starts .entry)) (now (links .entry)) (now (anchored .entry)) x) (now (marks .entry)) ⌝ }
 {
     numbers::of_searched(search::followers(starts, links, anchored, levels, layers, x, marks))
 }

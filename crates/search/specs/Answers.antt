@@ -3,10 +3,11 @@ use mathlib.Core.Bool.{cond}
 use mathlib.Core.List.{List}
 use Prim.Native.Nat.{ℕ}
 use lib.Dec.{leb, eqb}
+use Rattle.finite.specs.Count.{tabulate}
 use Rattle.table.specs.Table.{vertices, refused}
 use Rattle.table.specs.declared.Checked.{Checked}
 use Rattle.table.specs.declared.Checked.the-variants.{Sound, Refused}
-use Rattle.anchored.specs.Followers.{followers, reached}
+use Rattle.anchored.specs.Followers.{followers, reached, mark}
 use Rattle.shells.specs.Input.{graphOf, anchoredBy, admitOf}
 use Rattle.level.specs.SheetCheck.{sheetOf}
 use Rattle.level.specs.Answers.{past}
@@ -27,6 +28,10 @@ followersOf s l a lev lay x m = elim (searchOf s l a lev lay x m) [
   | Sound ↦ Found (followers (graphOf s l) (anchoredBy a) x) (reached (graphOf s l) (anchoredBy a) x)
   | Refused r ↦ SearchRefused r
 ]
+
+-- the marks of the search from x
+abbrev pub marksOf : List ℕ → List ℕ → List ℕ → ℕ → List ℕ
+marksOf s l a x = tabulate (mark (graphOf s l) (anchoredBy a) x) (vertices s)
 
 -- what the marks hold after an answer
 abbrev pub marked : Searched → List ℕ → List ℕ → List ℕ

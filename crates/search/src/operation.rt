@@ -2,13 +2,11 @@
 ghost use mathlib.Core.Path.{_≡_};
 ghost use Prim.Native.Nat.{_<_};
 ghost use lib.ListN.{length, getD};
-ghost use Rattle.finite.specs.Count.{tabulate};
 ghost use Rattle.table.specs.Table.{vertices};
-ghost use Rattle.anchored.specs.Followers.{mark as markOf};
 ghost use Rattle.anchored.specs.Followers.{followers as followersIn, reached as reachedIn};
 ghost use Rattle.shells.specs.Input.{graphOf, anchoredBy, Admitted};
 ghost use Rattle.level.specs.SheetCheck.{Accepted};
-ghost use Rattle.search.specs.Answers.{startOf, searchOf, followersOf, marked};
+ghost use Rattle.search.specs.Answers.{startOf, searchOf, followersOf, marksOf, marked};
 ghost use Rattle.search.specs.declared.operation.Searched.the-variants.{Found};
 
 // The answer of a search: how many follow and how many are candidates, or a refusal.
@@ -83,7 +81,7 @@ fn write_marks(
     requires { ⌜ (x < vertices (now starts)) × (getD (now anchored) x 0 ≡ 0) ⌝ }
     requires { ⌜ length (now marks) ≡ vertices (now starts) ⌝ }
     ensures answer { λ r. ⌜ r ≡ Found (followersIn (graphOf (now (starts .entry)) (now (links .entry))) (anchoredBy (now (anchored .entry))) x) (reachedIn (graphOf (now (starts .entry)) (now (links .entry))) (anchoredBy (now (anchored .entry))) x) ⌝ }
-    ensures marks { λ r. ⌜ now (marks .exit) ≡ tabulate (markOf (graphOf (now (starts .entry)) (now (links .entry))) (anchoredBy (now (anchored .entry))) x) (vertices (now (starts .entry))) ⌝ }
+    ensures marks { λ r. ⌜ now (marks .exit) ≡ marksOf (now (starts .entry)) (now (links .entry)) (now (anchored .entry)) x ⌝ }
 {
     let mut mark = [0u8; 1024];
     let found = crate::find::search(starts, links, anchored, levels, layers, x, &mut mark);
@@ -102,7 +100,7 @@ pub fn followers(
     marks: &mut [u8],
 ) -> Searched
     ensures answer { λ r. ⌜ r ≡ followersOf (now (starts .entry)) (now (links .entry)) (now (anchored .entry)) (now (levels .entry)) (now (layers .entry)) x (length (now (marks .entry))) ⌝ }
-    ensures marks { λ r. ⌜ now (marks .exit) ≡ marked r (tabulate (markOf (graphOf (now (starts .entry)) (now (links .entry))) (anchoredBy (now (anchored .entry))) x) (vertices (now (starts .entry)))) (now (marks .entry)) ⌝ }
+    ensures marks { λ r. ⌜ now (marks .exit) ≡ marked r (marksOf (now (starts .entry)) (now (links .entry)) (now (anchored .entry)) x) (now (marks .entry)) ⌝ }
 {
     let tested = test_search(starts, links, anchored, levels, layers, x, marks.len());
     match tested {

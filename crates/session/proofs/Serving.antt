@@ -116,7 +116,7 @@ module _ (s l a lev lay comps fol st : List ℕ) (S : Plain) (right : Right s l 
 -- ---- the answer
 
 -- admission tests that there are n bytes
-admitted-bytes : (s l a : List ℕ) → admitOf s l a ≡ Sound → length a ≡ vertices s
+pub admitted-bytes : (s l a : List ℕ) → admitOf s l a ≡ Sound → length a ≡ vertices s
 unfolding admitOf
 admitted-bytes s l a e =
     let checked = went-through (checkOf s l) _ e in

@@ -5,11 +5,13 @@ ghost use Prim.Native.Nat.{_≤_};
 ghost use lib.ListN.{length};
 ghost use Rattle.finite.specs.Count.{tabulate};
 ghost use Rattle.table.specs.Table.{vertices};
+ghost use Rattle.table.specs.declared.Checked.the-variants.{Sound};
 ghost use Rattle.shells.specs.Input.{Admitted};
 ghost use Rattle.level.specs.Answers.{threeOf};
 ghost use Rattle.step.specs.Record.{Right};
 ghost use Rattle.step.specs.Rows.{Stands, sessionOf};
 ghost use Rattle.session.specs.Run.{slices, admitRun, runOf, Ready, rowAt, ended, left};
+ghost use Rattle.session.specs.Claim.{Claim};
 use step::record::Record;
 
 // The record after all requests, and the three numbers of each.
@@ -112,7 +114,8 @@ fn admit(
     }
 }
 
-// A session: the record after the last request, and the three numbers of each; a refusal leaves the slices as they are.
+// A session: the record after the last request, and the three numbers of each; a refusal leaves the slices as they are. `claim` is
+// demand 3 of document 01.
 pub fn run(
     starts: &[u16],
     links: &[u16],
@@ -130,6 +133,7 @@ pub fn run(
 ) -> table::Checked
     ensures answer { λ r. ⌜ r ≡ runOf (now (starts .entry)) (now (links .entry)) (now (given .entry)) (now (requests .entry)) (slices (now (anchored .entry)) (now (levels .entry)) (now (layers .entry)) (now (components .entry)) (now (followers .entry)) (now (stamps .entry)) (now (status .entry)) (now (lifted .entry)) (now (redone .entry))) ⌝ }
     ensures slices { λ r. ⌜ slices (now (anchored .exit)) (now (levels .exit)) (now (layers .exit)) (now (components .exit)) (now (followers .exit)) (now (stamps .exit)) (now (status .exit)) (now (lifted .exit)) (now (redone .exit)) ≡ left r (ended (now (starts .entry)) (now (links .entry)) (now (given .entry)) (now (requests .entry))) (slices (now (anchored .entry)) (now (levels .entry)) (now (layers .entry)) (now (components .entry)) (now (followers .entry)) (now (stamps .entry)) (now (status .entry)) (now (lifted .entry)) (now (redone .entry))) ⌝ }
+    ensures claim { λ r. ⌜ (r ≡ Sound → Claim (now (starts .entry)) (now (links .entry)) (now (given .entry)) (now (requests .entry))) ⌝ }
 {
     let admitted = admit(
         starts,

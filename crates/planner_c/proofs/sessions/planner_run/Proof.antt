@@ -1,7 +1,8 @@
-use mathlib.Core.Path.{_≡_, ap, _∙_}
+use mathlib.Core.Path.{_≡_, sym, ap, _∙_}
 use Rattle.session.specs.Run.{Slices, left}
 use Rattle.table.specs.declared.Checked.{Checked}
 use Rattle.numbers.specs.Numbers.{checkedAs}
+use Rattle.planner_c.proofs.Numbers.{run-numbered}
 use borrow.Author.Needs.{needs}
 use Rattle.planner_c.proofs.sessions.planner_run.Statement.{statement}
 use Rattle.planner_c.proofs.sessions.planner_run.Tie as tie
@@ -50,7 +51,8 @@ same-length-9 c = called c .run .kept .1 .1 .1 .1 .1 .1 .1 .1 .1 .1 .1 .1 .0
 returns : tie.Need-returns
 returns c =
     let run = called c .run .ensures in
-    (c .of-checked .ensures ∙ ap checkedAs (run .0), left-as _ _ (run .0) (run .1))
+    let answer = c .of-checked .ensures ∙ ap checkedAs (run .0) in
+    (answer, (left-as _ _ (run .0) (run .1 .0), λ e. run .1 .1 (run .0 ∙ run-numbered _ _ _ _ _ (sym (ap (λ r. r .number) answer) ∙ e))))
 
 pub planner-run-spec : {M : Type 1} → statement M
 planner-run-spec =

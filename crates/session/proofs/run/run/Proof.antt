@@ -3,6 +3,7 @@ use mathlib.Core.Path.{_≡_, refl, sym, _∙_}
 use Rattle.table.specs.declared.Checked.the-variants.{Sound}
 use Rattle.session.specs.Run.{slices, runOf}
 use Rattle.session.proofs.Serving.{run-ready}
+use Rattle.session.proofs.Claims.{session-claim}
 use borrow.Author.Needs.{needs}
 use Rattle.session.proofs.run.run.Statement.{statement}
 use Rattle.session.proofs.run.run.Tie as tie
@@ -34,7 +35,9 @@ write-requires c κs =
     (told told-at)
 
 returns : tie.Need-returns
-returns c = (sym (sym (c .before .before .before .admit .ensures) ∙ c .before .admitted .given .1), refl)
+returns c =
+    let answer = sym (c .before .admitted .given .1) ∙ c .before .before .before .admit .ensures in
+    (answer, (refl, λ e. session-claim _ _ _ _ _ (sym answer ∙ e)))
 
 same-length : tie.Need-same-length
 same-length c = called c .write .kept .1 .1 .1 .1 .0
@@ -64,7 +67,9 @@ same-length-9 : tie.Need-same-length-9
 same-length-9 c = called c .write .kept .1 .1 .1 .1 .1 .1 .1 .1 .1 .1 .1 .1 .0
 
 returns-2 : tie.Need-returns-2
-returns-2 c = (sym (told (called c .before .before .before .before .before .before .before .before .before .before)), called c .write .ensures)
+returns-2 c =
+    let answer = told (called c .before .before .before .before .before .before .before .before .before .before) in
+    (sym answer, (called c .write .ensures, λ e. session-claim _ _ _ _ _ answer))
 
 pub run-spec : {M : Type 1} → statement M
 run-spec =

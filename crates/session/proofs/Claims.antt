@@ -1,0 +1,309 @@
+-- Demand 3, proved of every call that is not refused. Assumes nothing.
+use mathlib.Core.Path.{_≡_, refl, sym, ap, ap₂, _∙_, subst, fun-ext}
+use mathlib.Core.Bool.{Bool, true, false, not, cond, _&&_, _||_}
+use mathlib.Core.List.{List, []}
+use Prim.Native.Nat.{ℕ, _+_, _≤_, _<_}
+use native.Mathlib.Omega.{arith}
+use lib.ListN.{length, take, getD, List·getD-eq-default}
+use lib.Seq.{length-take-le}
+use lib.Dec.{T, ltb, eqb, leb, leb→le, nleb→lt, eqb→eq, eqb-refl, T-not, not-T}
+use borrow.Author.Tests.{ltb-false}
+use Rattle.finite.specs.Count.{bit, tabulate, count, below}
+use Rattle.finite.proofs.Tests.{or-l, or-r, split, true-of, false-of, neqb}
+use Rattle.finite.proofs.Count.{bit-le, bit-one, length-tabulate, tabulate-at, tabulate-cong, tabulate-self, count-cong, in-below}
+use Rattle.table.specs.Table.{vertices, checkOf, refused}
+use Rattle.table.specs.declared.Checked.the-variants.{Sound}
+use Rattle.table.proofs.Laws.{went-on}
+use Rattle.anchored.specs.Graph.{Graph, Simple}
+use Rattle.anchored.specs.Core.{level, layer}
+use Rattle.anchored.specs.Component.{component}
+use Rattle.anchored.specs.Followers.{adding, followers, followerCount, reached, mark}
+use Rattle.anchored.specs.Step.{recomputed}
+use Rattle.anchored.specs.Session.{Plain, statusOf, turn, rowOf, after}
+use Rattle.anchored.proofs.Anchor.{free-adding}
+use Rattle.anchored.proofs.Session.{status-free, turn-accepted, turn-refused, row-accepted, row-refused, after-more, after-prefix, after-beyond, followers-marks, level-lifted}
+use Rattle.anchored.proofs.Step.{kept-followers}
+use Rattle.shells.specs.Input.{graphOf, anchoredBy, admitOf, Admitted}
+use Rattle.shells.proofs.Laws.{simple, went-through, admitted, admits}
+use Rattle.level.specs.SheetCheck.{Accepted}
+use Rattle.level.proofs.Laws.{accepts}
+use Rattle.search.specs.declared.operation.Searched.the-variants.{Found}
+use Rattle.search.proofs.Answers.{start-free, search-start, followers-found}
+use Rattle.step.specs.Rows.{sessionOf}
+use Rattle.session.specs.Run.{Slices, sized, admitRun, runOf, rowAt, ended}
+use Rattle.session.specs.Claim.{upto, set, searched, marks, redone, shown, Fresh, Plainly, Accepts, Refuses, Claim}
+use Rattle.session.proofs.Serving.{admitted-bytes, run-lent}
+
+module _ (s l given requests : List ℕ) (accepted : admitOf s l given ≡ Sound) where
+  abbrev n : ℕ
+  n = vertices s
+
+  abbrev m : ℕ
+  m = length requests
+
+  abbrev G : Graph
+  G = graphOf s l
+
+  abbrev record-at : ℕ → Slices
+  record-at i = upto s l given requests i
+
+  abbrev set-at : ℕ → ℕ → Bool
+  set-at i = set s l given requests i
+
+  -- the session that the record after i requests is made from
+  abbrev P : ℕ → Plain
+  P i = sessionOf s l given (take i requests) (length (take i requests))
+
+  -- it is the session of the whole list after i requests
+  prefix : (i : ℕ) → i ≤ m → P i ≡ sessionOf s l given requests i
+  prefix i h = rw (length-take-le i requests h) (after-prefix G (anchoredBy given) requests i i (omega arith))
+
+  table-sound : checkOf s l ≡ Sound
+  unfolding admitOf
+  table-sound = went-through (checkOf s l) _ accepted .0
+
+  given-admitted : Admitted s l given
+  given-admitted = admitted s l given accepted
+
+  L : Simple G
+  L = simple s l (given-admitted .table)
+
+  -- ---- one record
+
+  module _ (i : ℕ) where
+    abbrev A : ℕ → Bool
+    A = P i .anchors
+
+    abbrev bytes : List ℕ
+    bytes = record-at i .anchored
+
+    -- a byte is 1 exactly for a vertex in the session's set
+    set-is : set-at i ≡ A
+    set-is = fun-ext (λ v. split (leb n v)
+        (λ h. let past = leb→le n v h in
+        rw (
+          List·getD-eq-default bytes 0 {n = v} (omega (arith, length-tabulate (λ w. bit (A w)) n)),
+          after-beyond G (anchoredBy given) (take i requests) (length (take i requests)) v past,
+          List·getD-eq-default given 0 {n = v} (omega (arith, admitted-bytes s l given accepted)),
+        ))
+        (λ h. rw (tabulate-at (λ w. bit (A w)) n v (nleb→lt n v h)) (bit-one (A v))))
+
+    bytes-admitted : admitOf s l bytes ≡ Sound
+    bytes-admitted = admits s l bytes table-sound (length-tabulate (λ v. bit (A v)) n) record {
+      table = given-admitted .table;
+      long = omega (arith, length-tabulate (λ v. bit (A v)) n);
+      bytes = λ v b. rw (tabulate-at (λ w. bit (A w)) n v b) (bit-le (A v));
+    }
+
+    sheet : Accepted s l bytes (record-at i .levels) (record-at i .layers)
+    sheet = record {
+      levels-long = length-tabulate (level G A) n;
+      layers-long = length-tabulate (layer G A) n;
+      levels-hold = λ v b. rw set-is (tabulate-at (level G A) n v b);
+      layers-hold = λ v b. rw set-is (tabulate-at (layer G A) n v b);
+    }
+
+    -- the search from a vertex that is not anchored accepts the record
+    search-at : (x : ℕ) → x < n → T (not (set-at i x)) → searched s l given requests i x ≡ Found (followers G (set-at i) x) (reached G (set-at i) x)
+    search-at x b free =
+        let lev = record-at i .levels in
+        let lay = record-at i .layers in
+        followers-found s l bytes lev lay x n
+        (search-start s l bytes lev lay x n bytes-admitted refl ∙ start-free s l bytes lev lay x (accepts s l bytes lev lay sheet) b (neqb (getD bytes x 0) 1 free))
+
+    count-anchored : (v : ℕ) → v < n → T (set-at i v) → getD (record-at i .followers) v 0 ≡ 65535
+    unfolding followerCount
+    count-anchored v b t = tabulate-at (followerCount G A) n v b ∙ rw (true-of (A v) (subst (λ B. T (B v)) set-is t))
+
+    count-free : (v : ℕ) → v < n → T (not (set-at i v)) → getD (record-at i .followers) v 0 ≡ followers G (set-at i) v
+    unfolding followerCount
+    count-free v b t = tabulate-at (followerCount G A) n v b ∙ rw (set-is, false-of (A v) (subst (λ B. T (not (B v))) set-is t))
+
+    pub fresh-at : Fresh s l given requests i
+    fresh-at = record {
+      admitted = bytes-admitted;
+      levels = ap (λ B. tabulate (level G B) n) (sym set-is);
+      layers = ap (λ B. tabulate (layer G B) n) (sym set-is);
+      components = ap (λ B. tabulate (component G B) n) (sym set-is);
+      anchored = count-anchored;
+      followers = λ v b t. search-at v b t ∙ ap (λ k. Found k (reached G (set-at i) v)) (sym (count-free v b t));
+    }
+
+    plain-at : i ≤ m → Plainly s l given requests i
+    plain-at h = record {
+      anchored = ap (λ S. tabulate (λ v. bit (S .anchors v)) n) (prefix i h);
+      stamps = ap (λ S. tabulate (S .stamps) n) (prefix i h);
+    }
+
+  -- ---- one request
+
+  module _ (i : ℕ) (h : i < m) where
+    abbrev x : ℕ
+    x = getD requests i 0
+
+    abbrev B : ℕ → Bool
+    B = P i .anchors
+
+    shown-row : shown s l given requests i ≡ rowAt s l given requests i
+    shown-row = rw (
+      tabulate-at (λ j. rowAt s l given requests j .status) m i h,
+      tabulate-at (λ j. rowAt s l given requests j .lifted) m i h,
+      tabulate-at (λ j. rowAt s l given requests j .redone) m i h,
+    )
+
+    -- the row and the turn, on the session that the record just before is made from
+    row-at : shown s l given requests i ≡ rowOf G (P i) x
+    row-at = shown-row ∙ ap (λ S. rowOf G S x) (sym (prefix i (omega arith)))
+
+    turn-at : P (i + 1) ≡ turn G (i + 1) x (P i)
+    turn-at = prefix (i + 1) (omega arith) ∙ after-more G (anchoredBy given) requests i ∙ ap (turn G (i + 1) x) (sym (prefix i (omega arith)))
+
+    row-status : rowOf G (P i) x .status ≡ statusOf G B x
+    row-status = split (eqb (statusOf G B x) 0)
+        (λ t. let e = eqb→eq (statusOf G B x) 0 t in ap (λ r. r .status) (row-accepted G (P i) x e) ∙ sym e)
+        (λ t. ap (λ r. r .status) (row-refused G (P i) x (neqb (statusOf G B x) 0 t)))
+
+    shown-status : shown s l given requests i .status ≡ statusOf G B x
+    shown-status = ap (λ r. r .status) row-at ∙ row-status
+
+    module _ (free : statusOf G B x ≡ 0) where
+      vertex : x < n
+      vertex = status-free G B x .0 free .0
+
+      unanchored : T (not (set-at i x))
+      unanchored = subst (λ C. T (not (C x))) (sym (set-is i)) (status-free G B x .0 free .1)
+
+      turned : P (i + 1) ≡ record { anchors = adding B x; stamps = λ v. cond (eqb x v || recomputed G B (adding B x) v) (i + 1) (P i .stamps v) }
+      turned = turn-at ∙ turn-accepted G (P i) x (i + 1) free
+
+      -- the anchors after, said of the session and of the record
+      next-anchors : P (i + 1) .anchors ≡ adding B x
+      next-anchors = ap (λ S. S .anchors) turned
+
+      next-set : set-at (i + 1) ≡ adding B x
+      next-set = set-is (i + 1) ∙ next-anchors
+
+      redone-is : redone s l given requests i ≡ recomputed G B (adding B x)
+      redone-is = ap₂ (recomputed G) (set-is i) next-set
+
+      row : shown s l given requests i ≡ record { status = 0; lifted = followers G B x; redone = count (recomputed G B (adding B x)) (below n) }
+      row = row-at ∙ row-accepted G (P i) x free
+
+      lifted-is : shown s l given requests i .lifted ≡ followers G (set-at i) x
+      lifted-is = ap (λ r. r .lifted) row ∙ ap (λ C. followers G C x) (sym (set-is i))
+
+      mark-at : (v : ℕ) → v < n → getD (marks s l given requests i x) v 0 ≡ mark G (set-at i) x v
+      mark-at v b = tabulate-at (mark G (set-at i) x) n v b
+
+      level-at : (v : ℕ) → v < n → (v ≡ x → ⊥)
+          → getD (record-at (i + 1) .levels) v 0 ≡ getD (record-at i .levels) v 0 + bit (eqb (getD (marks s l given requests i x) v 0) 2)
+      level-at v b other =
+          tabulate-at (level G (P (i + 1) .anchors)) n v b
+          ∙ ap (λ C. level G C v) next-anchors
+          ∙ level-lifted G L B x v b other
+          ∙ ap₂ (λ k j. k + bit (eqb j 2)) (sym (tabulate-at (level G B) n v b)) (sym (mark-at v b ∙ ap (λ C. mark G C x v) (set-is i)))
+
+      stamp-at : (v : ℕ) → v < n → getD (record-at (i + 1) .stamps) v 0 ≡ cond (eqb x v || redone s l given requests i v) (i + 1) (getD (record-at i .stamps) v 0)
+      stamp-at v b = rw redone-is (
+          tabulate-at (P (i + 1) .stamps) n v b
+          ∙ ap (λ S. S .stamps v) turned
+          ∙ ap (cond (eqb x v || recomputed G B (adding B x) v) (i + 1)) (sym (tabulate-at (P i .stamps) n v b)))
+
+      -- an anchored vertex other than x reads 65,535 before and after; any other row is kept where it is not recomputed
+      same-count : (v : ℕ) → v < n → T (not (eqb x v)) → T (not (recomputed G B (adding B x) v)) → followerCount G (adding B x) v ≡ followerCount G B v
+      unfolding followerCount
+      same-count v b other r = split (B v)
+          (λ a. rw (true-of (B v) a))
+          (λ a. let t = free-adding B x v a (neqb x v other) in rw (false-of (adding B x v) t, false-of (B v) a) (sym (kept-followers G L B x v b t r)))
+
+      count-at : (v : ℕ) → v < n → T (not (eqb x v || redone s l given requests i v)) → getD (record-at (i + 1) .followers) v 0 ≡ getD (record-at i .followers) v 0
+      count-at v b t =
+          let again = redone s l given requests i v in
+          let other = not-T (eqb x v) (λ e. T-not (eqb x v || again) t (or-l (eqb x v) again e)) in
+          let r = not-T again (λ e. T-not (eqb x v || again) t (or-r (eqb x v) again e)) in
+          tabulate-at (followerCount G (P (i + 1) .anchors)) n v b
+          ∙ ap (λ C. followerCount G C v) next-anchors
+          ∙ same-count v b other (subst (λ f. T (not (f v))) redone-is r)
+          ∙ sym (tabulate-at (followerCount G B) n v b)
+
+      x-not-redone : T (not (redone s l given requests i x))
+      unfolding recomputed
+      x-not-redone = subst (λ f. T (not (f x))) (sym redone-is) (rw (true-of (adding B x x) (or-r (B x) (eqb x x) (eqb-refl x))) tt)
+
+      accepted-at : Accepts s l given requests i x
+      accepted-at = record {
+        anchored = next-set ∙ ap (λ C. adding C x) (sym (set-is i));
+        search = search-at i x vertex unanchored ∙ ap (λ k. Found k (reached G (set-at i) x)) (sym lifted-is);
+        lifted = lifted-is ∙ followers-marks G (set-at i) x
+            ∙ count-cong _ _ (below n) (λ v j. ap (λ k. eqb k 2) (sym (mark-at v (in-below n v .0 j))));
+        levels = level-at;
+        stamped = λ v b t. stamp-at v b ∙ rw (true-of (eqb x v || redone s l given requests i v) t);
+        counted = ap (λ r. r .redone) row ∙ ap (λ f. count f (below n)) (sym redone-is);
+        uncounted = x-not-redone;
+        kept-followers = count-at;
+        kept-stamps = λ v b t. stamp-at v b ∙ rw (false-of (eqb x v || redone s l given requests i v) t);
+      }
+
+    module _ (refusal : statusOf G B x ≡ 0 → ⊥) where
+      same : P (i + 1) ≡ P i
+      same = turn-at ∙ turn-refused G (P i) x (i + 1) refusal
+
+      refused-row : shown s l given requests i ≡ record { status = statusOf G B x; lifted = 0; redone = 0 }
+      refused-row = row-at ∙ row-refused G (P i) x refusal
+
+      refused-at : Refuses s l given requests i
+      refused-at = record {
+        lifted = ap (λ r. r .lifted) refused-row;
+        redone = ap (λ r. r .redone) refused-row;
+        anchored = ap (λ S. tabulate (λ v. bit (S .anchors v)) n) same;
+        levels = ap (λ S. tabulate (level G (S .anchors)) n) same;
+        layers = ap (λ S. tabulate (layer G (S .anchors)) n) same;
+        components = ap (λ S. tabulate (component G (S .anchors)) n) same;
+        followers = ap (λ S. tabulate (followerCount G (S .anchors)) n) same;
+        stamps = ap (λ S. tabulate (S .stamps) n) same;
+      }
+
+  -- ---- the claim
+
+  -- bytes of at most 1 are the bits of the set they say
+  start-bytes : record-at 0 .anchored ≡ given
+  unfolding after
+  start-bytes =
+      tabulate-cong _ (λ v. getD given v 0) n (λ v b. byte (getD given v 0) (given-admitted .bytes v b))
+      ∙ tabulate-self given n (admitted-bytes s l given accepted)
+    where
+      byte : (k : ℕ) → k ≤ 1 → bit (eqb k 1) ≡ k
+      byte k h = split (eqb k 1)
+          (λ t. rw (true-of (eqb k 1) t) (sym (eqb→eq k 1 t)))
+          (λ t. let other = neqb k 1 t in rw (false-of (eqb k 1) t) (omega arith))
+
+  start-stamps : record-at 0 .stamps ≡ tabulate (λ v. 0) n
+  unfolding after
+  start-stamps = refl
+
+  module _ (few : m ≤ 4096) where
+    prefix-run : (i : ℕ) → i ≤ m → (lent : Slices) → T (sized n i lent) → runOf s l given (take i requests) lent ≡ Sound
+    prefix-run i h lent fits =
+        let long = length-take-le i requests h in
+        run-lent s l given (length (take i requests)) _ accepted true (omega arith) (rw long (true-of (sized n i lent) fits))
+
+    pub claimed : Claim s l given requests
+    claimed = record {
+      calls = prefix-run;
+      start-anchored = start-bytes;
+      start-stamps = start-stamps;
+      fresh = λ i h. fresh-at i;
+      plain = plain-at;
+      numbers = shown-row;
+      status = λ i h. shown-status i h ∙ ap (λ C. statusOf G C (getD requests i 0)) (sym (set-is i));
+      accepted = λ i h e. accepted-at i h (sym (shown-status i h) ∙ e);
+      refused = λ i h e. refused-at i h (λ z. e (shown-status i h ∙ z));
+    }
+
+-- demand 3, of every call that is not refused as a whole
+pub session-claim : (s l given requests : List ℕ) (fits : Bool) → admitRun s l given (length requests) fits ≡ Sound → Claim s l given requests
+unfolding admitRun
+session-claim s l given requests fits e =
+    let through = went-through (admitOf s l given) _ e in
+    let few = went-on (ltb 4096 (length requests)) 11 0 (cond fits Sound (refused 12 0)) (through .1) in
+    claimed s l given requests (through .0) (ltb-false 4096 (length requests) (few .0))
