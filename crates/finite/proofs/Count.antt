@@ -338,6 +338,12 @@ pub bit-one : (b : Bool) → eqb (bit b) 1 ≡ b
 bit-one true = refl
 bit-one false = refl
 
+-- a byte of at most 1 is the bit of whether it is 1
+pub bit-byte : (m : ℕ) → m ≤ 1 → bit (eqb m 1) ≡ m
+bit-byte m h = split (eqb m 1)
+    (λ t. rw (true-of (eqb m 1) t) (sym (eqb→eq m 1 t)))
+    (λ t. let other = neqb m 1 t in rw (false-of (eqb m 1) t) (omega arith))
+
 -- a list copied into zeros reads as the list
 pub copied-in : (xs : List ℕ) (m v : ℕ) → getD (tabulate (λ i. getD xs i 0) (length xs) ++ drop (length xs) (replicate m 0)) v 0 ≡ getD xs v 0
 copied-in xs m v =

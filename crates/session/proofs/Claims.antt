@@ -1,16 +1,16 @@
 -- Demand 3, proved of every call that is not refused. Assumes nothing.
 use mathlib.Core.Path.{_≡_, refl, sym, ap, ap₂, _∙_, subst, fun-ext}
-use mathlib.Core.Bool.{Bool, true, false, not, cond, _&&_, _||_}
-use mathlib.Core.List.{List, []}
+use mathlib.Core.Bool.{Bool, true, not, cond, _||_}
+use mathlib.Core.List.{List}
 use Prim.Native.Nat.{ℕ, _+_, _≤_, _<_}
 use native.Mathlib.Omega.{arith}
 use lib.ListN.{length, take, getD, List·getD-eq-default}
-use lib.Seq.{length-take-le}
+use lib.Seq.{length-take-le, take-length}
 use lib.Dec.{T, ltb, eqb, leb, leb→le, nleb→lt, eqb→eq, eqb-refl, T-not, not-T}
 use borrow.Author.Tests.{ltb-false}
 use Rattle.finite.specs.Count.{bit, tabulate, count, below}
 use Rattle.finite.proofs.Tests.{or-l, or-r, split, true-of, false-of, neqb}
-use Rattle.finite.proofs.Count.{bit-le, bit-one, length-tabulate, tabulate-at, tabulate-cong, tabulate-self, count-cong, in-below}
+use Rattle.finite.proofs.Count.{bit-le, bit-one, bit-byte, length-tabulate, tabulate-at, tabulate-cong, tabulate-self, count-cong, in-below}
 use Rattle.table.specs.Table.{vertices, checkOf, refused}
 use Rattle.table.specs.declared.Checked.the-variants.{Sound}
 use Rattle.table.proofs.Laws.{went-on}
@@ -19,7 +19,7 @@ use Rattle.anchored.specs.Core.{level, layer}
 use Rattle.anchored.specs.Component.{component}
 use Rattle.anchored.specs.Followers.{adding, followers, followerCount, reached, mark}
 use Rattle.anchored.specs.Step.{recomputed}
-use Rattle.anchored.specs.Session.{Plain, statusOf, turn, rowOf, after}
+use Rattle.anchored.specs.Session.{Plain, Row, statusOf, turn, rowOf, after}
 use Rattle.anchored.proofs.Anchor.{free-adding}
 use Rattle.anchored.proofs.Session.{status-free, turn-accepted, turn-refused, row-accepted, row-refused, after-more, after-prefix, after-beyond, followers-marks, level-lifted}
 use Rattle.anchored.proofs.Step.{kept-followers}
@@ -49,6 +49,15 @@ module _ (s l given requests : List ℕ) (accepted : admitOf s l given ≡ Sound
 
   abbrev set-at : ℕ → ℕ → Bool
   set-at i = set s l given requests i
+
+  abbrev marks-at : ℕ → ℕ → List ℕ
+  marks-at i x = marks s l given requests i x
+
+  abbrev redone-at : ℕ → ℕ → Bool
+  redone-at i = redone s l given requests i
+
+  abbrev shown-at : ℕ → Row
+  shown-at i = shown s l given requests i
 
   -- the session that the record after i requests is made from
   abbrev P : ℕ → Plain
@@ -144,7 +153,7 @@ module _ (s l given requests : List ℕ) (accepted : admitOf s l given ≡ Sound
     abbrev B : ℕ → Bool
     B = P i .anchors
 
-    shown-row : shown s l given requests i ≡ rowAt s l given requests i
+    shown-row : shown-at i ≡ rowAt s l given requests i
     shown-row = rw (
       tabulate-at (λ j. rowAt s l given requests j .status) m i h,
       tabulate-at (λ j. rowAt s l given requests j .lifted) m i h,
@@ -152,7 +161,7 @@ module _ (s l given requests : List ℕ) (accepted : admitOf s l given ≡ Sound
     )
 
     -- the row and the turn, on the session that the record just before is made from
-    row-at : shown s l given requests i ≡ rowOf G (P i) x
+    row-at : shown-at i ≡ rowOf G (P i) x
     row-at = shown-row ∙ ap (λ S. rowOf G S x) (sym (prefix i (omega arith)))
 
     turn-at : P (i + 1) ≡ turn G (i + 1) x (P i)
@@ -163,7 +172,7 @@ module _ (s l given requests : List ℕ) (accepted : admitOf s l given ≡ Sound
         (λ t. let e = eqb→eq (statusOf G B x) 0 t in ap (λ r. r .status) (row-accepted G (P i) x e) ∙ sym e)
         (λ t. ap (λ r. r .status) (row-refused G (P i) x (neqb (statusOf G B x) 0 t)))
 
-    shown-status : shown s l given requests i .status ≡ statusOf G B x
+    shown-status : shown-at i .status ≡ statusOf G B x
     shown-status = ap (λ r. r .status) row-at ∙ row-status
 
     module _ (free : statusOf G B x ≡ 0) where
@@ -183,27 +192,27 @@ module _ (s l given requests : List ℕ) (accepted : admitOf s l given ≡ Sound
       next-set : set-at (i + 1) ≡ adding B x
       next-set = set-is (i + 1) ∙ next-anchors
 
-      redone-is : redone s l given requests i ≡ recomputed G B (adding B x)
+      redone-is : redone-at i ≡ recomputed G B (adding B x)
       redone-is = ap₂ (recomputed G) (set-is i) next-set
 
-      row : shown s l given requests i ≡ record { status = 0; lifted = followers G B x; redone = count (recomputed G B (adding B x)) (below n) }
+      row : shown-at i ≡ record { status = 0; lifted = followers G B x; redone = count (recomputed G B (adding B x)) (below n) }
       row = row-at ∙ row-accepted G (P i) x free
 
-      lifted-is : shown s l given requests i .lifted ≡ followers G (set-at i) x
+      lifted-is : shown-at i .lifted ≡ followers G (set-at i) x
       lifted-is = ap (λ r. r .lifted) row ∙ ap (λ C. followers G C x) (sym (set-is i))
 
-      mark-at : (v : ℕ) → v < n → getD (marks s l given requests i x) v 0 ≡ mark G (set-at i) x v
+      mark-at : (v : ℕ) → v < n → getD (marks-at i x) v 0 ≡ mark G (set-at i) x v
       mark-at v b = tabulate-at (mark G (set-at i) x) n v b
 
       level-at : (v : ℕ) → v < n → (v ≡ x → ⊥)
-          → getD (record-at (i + 1) .levels) v 0 ≡ getD (record-at i .levels) v 0 + bit (eqb (getD (marks s l given requests i x) v 0) 2)
+          → getD (record-at (i + 1) .levels) v 0 ≡ getD (record-at i .levels) v 0 + bit (eqb (getD (marks-at i x) v 0) 2)
       level-at v b other =
           tabulate-at (level G (P (i + 1) .anchors)) n v b
           ∙ ap (λ C. level G C v) next-anchors
           ∙ level-lifted G L B x v b other
           ∙ ap₂ (λ k j. k + bit (eqb j 2)) (sym (tabulate-at (level G B) n v b)) (sym (mark-at v b ∙ ap (λ C. mark G C x v) (set-is i)))
 
-      stamp-at : (v : ℕ) → v < n → getD (record-at (i + 1) .stamps) v 0 ≡ cond (eqb x v || redone s l given requests i v) (i + 1) (getD (record-at i .stamps) v 0)
+      stamp-at : (v : ℕ) → v < n → getD (record-at (i + 1) .stamps) v 0 ≡ cond (eqb x v || redone-at i v) (i + 1) (getD (record-at i .stamps) v 0)
       stamp-at v b = rw redone-is (
           tabulate-at (P (i + 1) .stamps) n v b
           ∙ ap (λ S. S .stamps v) turned
@@ -216,9 +225,9 @@ module _ (s l given requests : List ℕ) (accepted : admitOf s l given ≡ Sound
           (λ a. rw (true-of (B v) a))
           (λ a. let t = free-adding B x v a (neqb x v other) in rw (false-of (adding B x v) t, false-of (B v) a) (sym (kept-followers G L B x v b t r)))
 
-      count-at : (v : ℕ) → v < n → T (not (eqb x v || redone s l given requests i v)) → getD (record-at (i + 1) .followers) v 0 ≡ getD (record-at i .followers) v 0
+      count-at : (v : ℕ) → v < n → T (not (eqb x v || redone-at i v)) → getD (record-at (i + 1) .followers) v 0 ≡ getD (record-at i .followers) v 0
       count-at v b t =
-          let again = redone s l given requests i v in
+          let again = redone-at i v in
           let other = not-T (eqb x v) (λ e. T-not (eqb x v || again) t (or-l (eqb x v) again e)) in
           let r = not-T again (λ e. T-not (eqb x v || again) t (or-r (eqb x v) again e)) in
           tabulate-at (followerCount G (P (i + 1) .anchors)) n v b
@@ -226,7 +235,7 @@ module _ (s l given requests : List ℕ) (accepted : admitOf s l given ≡ Sound
           ∙ same-count v b other (subst (λ f. T (not (f v))) redone-is r)
           ∙ sym (tabulate-at (followerCount G B) n v b)
 
-      x-not-redone : T (not (redone s l given requests i x))
+      x-not-redone : T (not (redone-at i x))
       unfolding recomputed
       x-not-redone = subst (λ f. T (not (f x))) (sym redone-is) (rw (true-of (adding B x x) (or-r (B x) (eqb x x) (eqb-refl x))) tt)
 
@@ -237,18 +246,18 @@ module _ (s l given requests : List ℕ) (accepted : admitOf s l given ≡ Sound
         lifted = lifted-is ∙ followers-marks G (set-at i) x
             ∙ count-cong _ _ (below n) (λ v j. ap (λ k. eqb k 2) (sym (mark-at v (in-below n v .0 j))));
         levels = level-at;
-        stamped = λ v b t. stamp-at v b ∙ rw (true-of (eqb x v || redone s l given requests i v) t);
+        stamped = λ v b t. stamp-at v b ∙ rw (true-of (eqb x v || redone-at i v) t);
         counted = ap (λ r. r .redone) row ∙ ap (λ f. count f (below n)) (sym redone-is);
         uncounted = x-not-redone;
         kept-followers = count-at;
-        kept-stamps = λ v b t. stamp-at v b ∙ rw (false-of (eqb x v || redone s l given requests i v) t);
+        kept-stamps = λ v b t. stamp-at v b ∙ rw (false-of (eqb x v || redone-at i v) t);
       }
 
     module _ (refusal : statusOf G B x ≡ 0 → ⊥) where
       same : P (i + 1) ≡ P i
       same = turn-at ∙ turn-refused G (P i) x (i + 1) refusal
 
-      refused-row : shown s l given requests i ≡ record { status = statusOf G B x; lifted = 0; redone = 0 }
+      refused-row : shown-at i ≡ record { status = statusOf G B x; lifted = 0; redone = 0 }
       refused-row = row-at ∙ row-refused G (P i) x refusal
 
       refused-at : Refuses s l given requests i
@@ -269,13 +278,8 @@ module _ (s l given requests : List ℕ) (accepted : admitOf s l given ≡ Sound
   start-bytes : record-at 0 .anchored ≡ given
   unfolding after
   start-bytes =
-      tabulate-cong _ (λ v. getD given v 0) n (λ v b. byte (getD given v 0) (given-admitted .bytes v b))
+      tabulate-cong _ (λ v. getD given v 0) n (λ v b. bit-byte (getD given v 0) (given-admitted .bytes v b))
       ∙ tabulate-self given n (admitted-bytes s l given accepted)
-    where
-      byte : (k : ℕ) → k ≤ 1 → bit (eqb k 1) ≡ k
-      byte k h = split (eqb k 1)
-          (λ t. rw (true-of (eqb k 1) t) (sym (eqb→eq k 1 t)))
-          (λ t. let other = neqb k 1 t in rw (false-of (eqb k 1) t) (omega arith))
 
   start-stamps : record-at 0 .stamps ≡ tabulate (λ v. 0) n
   unfolding after
@@ -290,6 +294,7 @@ module _ (s l given requests : List ℕ) (accepted : admitOf s l given ≡ Sound
     pub claimed : Claim s l given requests
     claimed = record {
       calls = prefix-run;
+      end = ap (ended s l given) (take-length requests);
       start-anchored = start-bytes;
       start-stamps = start-stamps;
       fresh = λ i h. fresh-at i;

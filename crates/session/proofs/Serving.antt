@@ -3,16 +3,14 @@ use mathlib.Core.Path.{_≡_, refl, sym, ap, _∙_, subst}
 use mathlib.Core.Bool.{Bool, cond, _&&_}
 use mathlib.Core.List.{List, [], _++_}
 use Prim.Native.Nat.{ℕ, _+_, _≤_, _<_}
-use native.Mathlib.Omega.{arith}
 use lib.ListN.{length, drop, getD, set, length-set}
-use lib.Dec.{ltb, eqb, eqb→eq}
+use lib.Dec.{ltb, eqb}
 use borrow.Author.Tests.{lt-ltb, le-ltb, ltb-false, eqb-true, not-false}
 use Rattle.finite.specs.Count.{bit, tabulate}
-use Rattle.finite.proofs.Tests.{and-l, and-r, split, true-of, false-of, neqb}
-use Rattle.finite.proofs.Count.{fill-none, fill-more, fill-all, tabulate-cong}
+use Rattle.finite.proofs.Tests.{and-l, and-r}
+use Rattle.finite.proofs.Count.{bit-byte, fill-none, fill-more, fill-all, tabulate-cong}
 use Rattle.table.specs.Table.{vertices, checkOf, refused}
 use Rattle.table.specs.declared.Refusal.{Refusal}
-use Rattle.table.specs.declared.Checked.{Checked}
 use Rattle.table.specs.declared.Checked.the-variants.{Sound, Refused}
 use Rattle.table.proofs.Laws.{went-on}
 use Rattle.anchored.specs.Core.{level, layer}
@@ -93,13 +91,7 @@ copied-out f xs new k n copied e holds = copied ∙ ap (tabulate (λ v. getD xs 
 module _ (s l a lev lay comps fol st : List ℕ) (S : Plain) (right : Right s l a lev lay comps fol) (stands : Stands (vertices s) a st S) where
   -- the record at the end, in the words of the plain session
   pub end-anchored : Holds a (vertices s) (λ v. bit (S .anchors v))
-  end-anchored v h =
-      subst (λ A. getD a v 0 ≡ bit (A v)) (stands .anchors) (byte (getD a v 0) (right .sheet .admitted .bytes v h))
-    where
-      byte : (m : ℕ) → m ≤ 1 → m ≡ bit (eqb m 1)
-      byte m h = split (eqb m 1)
-          (λ t. rw (true-of (eqb m 1) t) (eqb→eq m 1 t))
-          (λ t. let other = neqb m 1 t in rw (false-of (eqb m 1) t) (omega arith))
+  end-anchored v h = subst (λ A. getD a v 0 ≡ bit (A v)) (stands .anchors) (sym (bit-byte (getD a v 0) (right .sheet .admitted .bytes v h)))
 
   pub end-levels : Holds lev (vertices s) (level (graphOf s l) (S .anchors))
   end-levels = subst (λ A. Holds lev (vertices s) (level (graphOf s l) A)) (stands .anchors) (right .sheet .levels)

@@ -2,7 +2,6 @@
 use mathlib.Core.Path.{_≡_, refl}
 use mathlib.Core.List.{List, [], _∷_}
 use Prim.Native.Nat.{ℕ}
-use lib.ListN.{length, getD}
 use Rattle.finite.specs.Count.{tabulate, below, count}
 use Rattle.finite.specs.Search.{any, all, firstFrom, first, largest, ascending}
 use Rattle.finite.specs.Sets.{keep, having, rounds, grow}

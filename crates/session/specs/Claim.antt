@@ -98,6 +98,8 @@ module _ (s l given requests : List ℕ) where
   pub record Claim : Type 0 where
     -- the call with the first i requests alone, and slices of their lengths, is not refused
     pub calls : (i : ℕ) → i ≤ length requests → (lent : Slices) → T (sized n i lent) → runOf s l given (take i requests) lent ≡ Sound
+    -- with all requests it is this call
+    pub end : upto (length requests) ≡ ended s l given requests
     -- at the start the bytes are the given ones, and every stamp is 0
     pub start-anchored : upto 0 .anchored ≡ given
     pub start-stamps : upto 0 .stamps ≡ tabulate (λ v. 0) n

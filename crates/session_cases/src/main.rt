@@ -1,5 +1,5 @@
 // Runs sessions on the chain of document 01, without vertices, and with as many requests as a session takes and one more. The lent
-// slices are parts of arrays of 7s, which are printed whole.
+// slices are parts of arrays of 7s; of each but the anchored bytes the first eight places are printed.
 ghost use Prim.Native.Nat.{_≤_};
 ghost use lib.ListN.{length};
 use cases::print::rows;
