@@ -1,16 +1,17 @@
 -- Candidates: the ends of upstair walks; every follower is one (theorem 4.14 of source document 000). Assumes nothing.
 use Prim.Native.Nat.{ℕ, zero, suc, _-_, _≤_, _<_}
 use mathlib.Core.Path.{_≡_, refl, sym, ap, subst}
-use mathlib.Core.Bool.{Bool, not, _&&_}
+use mathlib.Core.Logic.{_↔_}
+use mathlib.Core.Bool.{Bool, true, false, not, cond, _&&_}
 use mathlib.Core.List.{List}
 use lib.Dec.{T, eqb, ltb, leb→le, le→leb, T-not, not-T, eqb→eq, eqb-refl}
 use native.Mathlib.Omega.{arith}
-use Rattle.finite.specs.Count.{In}
+use Rattle.finite.specs.Count.{In, count, below}
 use Rattle.finite.specs.Search.{member}
 use Rattle.finite.specs.Sets.{has, having, rounds, grow}
 use Rattle.finite.specs.Pairs.{pairLe}
-use Rattle.finite.proofs.Tests.{and-i, and-l, and-r, or-l, or-r, or-e, split, same, eqb-of}
-use Rattle.finite.proofs.Count.{count-witness}
+use Rattle.finite.proofs.Tests.{and-i, and-l, and-r, or-l, or-r, or-e, split, true-of, same, eqb-of}
+use Rattle.finite.proofs.Count.{count-cong, count-witness, in-below}
 use Rattle.finite.proofs.Search.{any-i, any-e, member-i}
 use Rattle.finite.proofs.Sets.{rounds-suc, having-i, having-e, having-lt, length-having, grow-i, grow-e, grow-keeps, grow-rest}
 use Rattle.finite.proofs.Pairs.{strong, pair-no, pair-e, pair-lt, pair-eq}
@@ -18,16 +19,10 @@ use Rattle.anchored.specs.Graph.{Graph, Simple}
 use Rattle.anchored.specs.Core.{core, level, layer, greater}
 use Rattle.anchored.specs.Component.{Joined, stay, hop}
 use Rattle.anchored.specs.Sheet.{atLeast}
-use Rattle.anchored.specs.Followers.{adding, follows, firstStep, onward, candidates}
+use Rattle.anchored.specs.Followers.{adding, follows, firstStep, Walk, start, step, onward, candidates, reached, mark}
 use Rattle.anchored.proofs.Core.{core-solid, level-max, in-core}
 use Rattle.anchored.proofs.Sheet.{defined-local}
 use Rattle.anchored.proofs.Anchor.{free-of, free-adding, level-by-one}
-
--- an upstair walk from x to v: its first step to a neighbor, not anchored, of greater pair, each further one to a neighbor of
--- the same level and greater layer
-pub data Walk (G : Graph) (A : ℕ → Bool) (x : ℕ) : ℕ → Type 0 where
-  start : {v : ℕ} → v < G .size → T (firstStep G A x v) → Walk G A x v
-  step : {w v : ℕ} → Walk G A x w → v < G .size → T (not (A v)) → In w (G .neighbors v) → level G A w ≡ level G A v → layer G A w < layer G A v → Walk G A x v
 
 module _ (G : Graph) (L : Simple G) (A : ℕ → Bool) (x : ℕ) where
   abbrev lev : ℕ → ℕ
@@ -78,6 +73,10 @@ module _ (G : Graph) (L : Simple G) (A : ℕ → Bool) (x : ℕ) where
   unfolding candidates after
   candidate-walk v h = after-walk (G .size) v h
 
+  -- the candidates are exactly the ends of upstair walks
+  pub candidate-iff : (v : ℕ) → T (has (candidates G A x) v) ↔ Walk G A x v
+  candidate-iff v = (candidate-walk v, walk-candidate v)
+
   -- marks that hold every first step, are closed under further steps, and are ends of walks, are the candidates: any order of search will do
   pub candidates-unique : (M : ℕ → Bool) → ((v : ℕ) → T (M v) → Walk G A x v) → ((v : ℕ) → v < G .size → T (firstStep G A x v) → T (M v))
       → ((w v : ℕ) → T (M w) → v < G .size → T (not (A v)) → In w (G .neighbors v) → lev w ≡ lev v → lay w < lay v → T (M v))
@@ -126,6 +125,21 @@ module _ (G : Graph) (L : Simple G) (A : ℕ → Bool) (x : ℕ) where
 
   pub follower-candidate : (v : ℕ) → v < G .size → T (follows G A x v) → T (has (candidates G A x) v)
   follower-candidate v b h = walk-candidate v (follower-walk v b h)
+
+  -- a candidate's mark is 1 or 2, every other vertex has mark 0
+  pub candidate-mark : (v : ℕ) → v < G .size → has (candidates G A x) v ≡ not (eqb (mark G A x v) 0)
+  unfolding mark
+  candidate-mark v b = by-case (follows G A x v) (has (candidates G A x) v) (follower-candidate v b)
+    where
+      by-case : (f c : Bool) → (T f → T c) → c ≡ not (eqb (cond f 2 (cond c 1 0)) 0)
+      by-case true c h = true-of c (h tt)
+      by-case false true h = refl
+      by-case false false h = refl
+
+  -- the reached count is that of the marks 1 and 2 together
+  pub reached-marks : reached G A x ≡ count (λ v. not (eqb (mark G A x v) 0)) (below (G .size))
+  unfolding reached
+  reached-marks = count-cong (has (candidates G A x)) _ (below (G .size)) (λ v i. candidate-mark v (in-below (G .size) v .0 i))
 
   -- a candidate stands above x in the order of pairs, so x is none
   walk-greater : (v : ℕ) → Walk G A x v → T (not (pairLe (lev v) (lay v) (lev x) (lay x)))

@@ -4,15 +4,15 @@ use mathlib.Core.Path.{_≡_, refl, sym, _∙_, subst}
 use mathlib.Core.Logic.{_↔_}
 use mathlib.Core.Bool.{Bool, true, not, _&&_, _||_}
 use mathlib.Core.List.{List}
-use lib.ListN.{length, replicate, length-replicate}
-use lib.Dec.{T, leb, leb→le, le→leb, nleb→lt, T-not, not-T}
+use lib.ListN.{length, getD, replicate, length-replicate}
+use lib.Dec.{T, leb, ltb, leb→le, le→leb, nleb→lt, ltb→lt, lt→ltb, nltb→le, T-not, not-T}
 use native.Mathlib.Omega.{arith}
 use native.Mathlib.Nat.{zero-add, add-zero, add-suc, le-trans}
 use Rattle.finite.specs.Count.{count}
 use Rattle.finite.specs.Search.{first, largest}
 use Rattle.finite.specs.Sets.{has, size, rounds}
 use Rattle.finite.proofs.Tests.{and-i, and-l, and-r, or-l, or-r, or-e, split, true-of, false-of, not-not}
-use Rattle.finite.proofs.Count.{count-mono, count-length, distinct-other}
+use Rattle.finite.proofs.Count.{in-at, at-in, count-length, count-some, count-mono, distinct-other}
 use Rattle.finite.proofs.Search.{largest-holds, largest-max, first-le, first-before, first-ends}
 use Rattle.finite.proofs.Sets.{has-all, has-lt, has-keep, length-keep, keep-same, size-length, rounds-suc, shrink-rest}
 use Rattle.anchored.specs.Graph.{Graph, Simple}
@@ -116,6 +116,25 @@ module _ (G : Graph) (L : Simple G) (A : ℕ → Bool) where
         ),
   )
 
+  pub level-degree : (v : ℕ) → v < G .size → T (not (A v)) → level G A v ≤ length (G .neighbors v)
+  level-degree v b a = le-trans (core-solid (level G A v) v b (level-in v b a) a) (count-length _ (G .neighbors v))
+
+  -- the vertices that have a neighbor are a solid set for 1: each is its neighbor's neighbor
+  some-solid : Solid G A 1 (λ v. ltb 0 (length (G .neighbors v)))
+  some-solid v b h a =
+      let w = getD (G .neighbors v) 0 0 in
+      let i = in-at (G .neighbors v) 0 0 (ltb→lt 0 (length (G .neighbors v)) h) in
+      count-some _ (G .neighbors v) w i (lt→ltb 0 (length (G .neighbors w)) (omega (arith, at-in (G .neighbors w) v 0 (L .symmetric v w b i) .1)))
+
+  -- a vertex that is not anchored has level 0 exactly when it has no neighbors
+  pub level-zero : (v : ℕ) → v < G .size → T (not (A v)) → (level G A v ≡ 0) ↔ (length (G .neighbors v) ≡ 0)
+  level-zero v b a = (
+    λ e. split (ltb 0 (length (G .neighbors v)))
+        (λ t. absurd (omega (arith, level-max v 1 a (core-largest 1 _ some-solid v b t))))
+        (λ t. omega (arith, nltb→le 0 (length (G .neighbors v)) t)),
+    λ e. omega (arith, level-degree v b a),
+  )
+
   -- ---- shells and layers
 
   pub shell-suc : (k j : ℕ) → shell G A k (suc j) ≡ batch G A (suc k) (shell G A k j)
@@ -177,9 +196,6 @@ module _ (G : Graph) (L : Simple G) (A : ℕ → Bool) where
   layer-anchored v a = rw (true-of (A v) a)
 
   -- ---- bounds: every level and layer fits
-
-  pub level-degree : (v : ℕ) → v < G .size → T (not (A v)) → level G A v ≤ length (G .neighbors v)
-  level-degree v b a = le-trans (core-solid (level G A v) v b (level-in v b a) a) (count-length _ (G .neighbors v))
 
   pub degree-lt : (v : ℕ) → v < G .size → length (G .neighbors v) < G .size
   degree-lt v b = distinct-other (G .neighbors v) (G .size) (L .distinct v b) (λ w i. L .range v w b i) v b (L .loopless v b)

@@ -18,12 +18,12 @@ use Rattle.finite.proofs.Pairs.{strong, pair-lt, pair-eq, pair-e, pair-no}
 use Rattle.anchored.specs.Graph.{Graph, Simple}
 use Rattle.anchored.specs.Core.{Solid, core, level, layer, greater, higher}
 use Rattle.anchored.specs.Component.{Joined, stay, hop}
-use Rattle.anchored.specs.Followers.{adding, follows, followers, firstStep, candidates, reached}
+use Rattle.anchored.specs.Followers.{adding, follows, followers, firstStep, Walk, start, step, candidates, reached}
 use Rattle.anchored.specs.Sheet.{atLeast}
 use Rattle.anchored.proofs.Core.{core-solid, core-largest, core-anchored, level-max, in-core, layer-positive}
 use Rattle.anchored.proofs.Sheet.{defined-local}
 use Rattle.anchored.proofs.Anchor.{other-of, free-adding, core-adding, core-less}
-use Rattle.anchored.proofs.Candidates.{Walk, start, step, walk-free, walk-candidate, candidate-walk, follower-walk, walk-enters}
+use Rattle.anchored.proofs.Candidates.{walk-free, walk-candidate, candidate-walk, follower-walk, walk-enters}
 
 -- S is a component of level k in both pools, with the same edges inside, and each member has as many neighbors above it in one as in the other
 pub record Alike (G H : Graph) (A B : ℕ → Bool) (k : ℕ) (S : ℕ → Bool) : Type 0 where

@@ -16,18 +16,8 @@ use Rattle.finite.proofs.Search.{all-below-e, all-below-i}
 use Rattle.finite.proofs.Pairs.{pair-ind, pair-lt, pair-eq, pair-e, pair-no, pair-zero-i, pair-zero-e}
 use Rattle.anchored.specs.Graph.{Graph, Simple}
 use Rattle.anchored.specs.Core.{Solid, core, level, shell, layer}
-use Rattle.anchored.specs.Sheet.{atLeast, isDefined, support, misplaced, tooHigh, tooLow, tooLate, fits, isLocal}
+use Rattle.anchored.specs.Sheet.{atLeast, isDefined, support, misplaced, tooHigh, tooLow, tooLate, fits, Fits, isLocal}
 use Rattle.anchored.proofs.Core.{batch-in, batch-sub, batch-full, core-lt, core-solid, core-largest, core-anchored, level-in, level-max, in-core, shell-suc, shell-core, core-shell, layer-out, layer-in, shell-layer, level-anchored, layer-anchored, layer-positive}
-
--- what the local test asks of a vertex that is not anchored
-pub record Fits (G : Graph) (A : ℕ → Bool) (lev lay : ℕ → ℕ) (v : ℕ) : Type 0 where
-  pub positive : 1 ≤ lay v
-  -- (a) enough neighbors of its level or more
-  pub enough : lev v ≤ support G A lev lay v (lev v) 0
-  -- (b) few at or above its pair
-  pub few : support G A lev lay v (lev v) (lay v) ≤ lev v
-  -- (c) more than that one layer lower
-  pub later : 1 < lay v → lev v < support G A lev lay v (lev v) (lay v - 1)
 
 pub record Local (G : Graph) (A : ℕ → Bool) (lev lay : ℕ → ℕ) : Type 0 where
   pub anchored : (v : ℕ) → v < G .size → T (A v) → (lev v ≡ 65535) × (lay v ≡ 0)

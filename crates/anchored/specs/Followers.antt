@@ -1,9 +1,10 @@
 -- Document 01, "The local search": followers (riders lifted), candidates (riders reached), marks, and the choice of a round.
+use mathlib.Core.Path.{_≡_}
 use mathlib.Core.Bool.{Bool, not, cond, _&&_, _||_}
 use mathlib.Core.List.{List}
-use Prim.Native.Nat.{ℕ}
-use lib.Dec.{leb, ltb, eqb}
-use Rattle.finite.specs.Count.{count, below}
+use Prim.Native.Nat.{ℕ, _<_}
+use lib.Dec.{T, leb, ltb, eqb}
+use Rattle.finite.specs.Count.{In, count, below}
 use Rattle.finite.specs.Search.{any, all, member, first}
 use Rattle.finite.specs.Sets.{has, having, rounds, grow}
 use Rattle.anchored.specs.Graph.{Graph}
@@ -30,11 +31,16 @@ module _ (G : Graph) (A : ℕ → Bool) where
   unfoldable pub firstStep : ℕ → ℕ → Bool
   firstStep x v = not (A v) && member v (G .neighbors x) && greater G A v x
 
+  -- an upstair walk from x to v: a first step, and from then on steps to a neighbor, not anchored, of the same level and greater layer
+  pub data Walk (x : ℕ) : ℕ → Type 0 where
+    start : {v : ℕ} → v < G .size → T (firstStep x v) → Walk x v
+    step : {w v : ℕ} → Walk x w → v < G .size → T (not (A v)) → In w (G .neighbors v) → level G A w ≡ level G A v → layer G A w < layer G A v → Walk x v
+
   -- a further step to v, from a neighbor already reached, of the same level and smaller layer
   unfoldable pub onward : List Bool → ℕ → Bool
   onward s v = not (A v) && any (λ w. has s w && eqb (level G A w) (level G A v) && ltb (layer G A w) (layer G A v)) (G .neighbors v)
 
-  -- the ends of upstair walks from x
+  -- the ends of upstair walks from x. Theorem `candidate-iff`
   unfoldable pub candidates : ℕ → List Bool
   candidates x = rounds (grow (G .size) onward) (G .size) (having (firstStep x) (G .size))
 

@@ -1,6 +1,6 @@
 -- Document 01, "The level sheet": a sheet, lev and lay, is the defined one; and the local test of it, vertex by vertex.
 use mathlib.Core.Bool.{Bool, not, cond, _&&_, _||_}
-use Prim.Native.Nat.{ℕ, _-_}
+use Prim.Native.Nat.{ℕ, _-_, _≤_, _<_}
 use lib.Dec.{leb, ltb, eqb}
 use Rattle.finite.specs.Count.{count, below}
 use Rattle.finite.specs.Search.{all}
@@ -39,6 +39,16 @@ module _ (G : Graph) (A : ℕ → Bool) (lev lay : ℕ → ℕ) where
 
   unfoldable pub fits : ℕ → Bool
   fits v = not (misplaced v || tooHigh v || tooLow v || tooLate v)
+
+  -- what `fits` says of a vertex that is not anchored, as facts: law `fits-free`
+  pub record Fits (v : ℕ) : Type 0 where
+    pub positive : 1 ≤ lay v
+    -- (a) enough neighbors of its level or more
+    pub enough : lev v ≤ support v (lev v) 0
+    -- (b) few at or above its pair
+    pub few : support v (lev v) (lay v) ≤ lev v
+    -- (c) more than that one layer lower
+    pub later : 1 < lay v → lev v < support v (lev v) (lay v - 1)
 
   -- the local test. Theorem `local-iff`: exactly the defined sheet passes it
   unfoldable pub isLocal : Bool

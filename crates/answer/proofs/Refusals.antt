@@ -1,14 +1,16 @@
--- A text is refused with the numbers that document 01 lists for texts, and with no other. Assumes nothing.
+-- A text is refused with the numbers that document 01 lists for texts, and with no other; with 12 only where there is less room
+-- than the longest sheet needs. Assumes nothing.
 use mathlib.Core.Path.{_≡_, refl, sym, ap, _∙_, subst}
-use mathlib.Core.Bool.{Bool, true, false, cond}
+use mathlib.Core.Bool.{Bool, true, false, not, cond, _&&_, _||_}
 use mathlib.Core.List.{List, [], _∷_}
 use Prim.Native.Nat.{ℕ, _+_, _-_, _≤_, _<_}
+use native.Mathlib.Nat.{mul-le-mul-right}
 use native.Mathlib.Omega.{arith}
 use lib.ListN.{length, getD}
-use lib.Dec.{T, ltb, eqb, eqb→eq}
+use lib.Dec.{T, ltb, eqb, ltb→lt, lt→ltb, nltb→le, eqb→eq}
 use borrow.Author.Tests.{le-ltb, ne-eqb, eq-eqb}
 use Rattle.finite.specs.Search.{any, member, first, NoneBelow}
-use Rattle.finite.proofs.Tests.{split, true-of, false-of, neqb}
+use Rattle.finite.proofs.Tests.{and-l, and-r, or-e, split, true-of, false-of, neqb}
 use Rattle.table.specs.Table.{vertices, badStart, wrongEnd, wrongStep, beyond, looped, unsorted, unreturned, refused, refuse as searched, checkOf}
 use Rattle.table.specs.declared.Refusal.{Refusal}
 use Rattle.table.specs.declared.Checked.{Checked}
@@ -50,35 +52,35 @@ starts-good t asked e i h =
     rw (false-of (eqb i 0) p, le-ltb (getD s i 0) (getD s (i - 1) 0) up)) in
     rw (end, step)
 
-module _ (x : Refusal) where
+-- a number listed, and 12 only where there is room for fewer than 64,320 bytes
+abbrev withRoom : ℕ → ℕ → Bool
+withRoom room k = ofTexts k && (not (eqb k 12) || ltb room 64320)
+
+module _ (x : Refusal) (room : ℕ) where
   abbrev Listed : Type 0
-  Listed = T (ofTexts (x .number))
+  Listed = T (withRoom room (x .number))
 
   -- a refusal is this one, or comes later
-  told : (k p : ℕ) → T (ofTexts k) → _≡_ {A = Answered} (refuse k p) (Refused x) → Listed
-  told k p h e = let q : k ≡ x .number = cc in subst (λ j. T (ofTexts j)) q h
+  told : (k p : ℕ) → T (withRoom room k) → _≡_ {A = Answered} (refuse k p) (Refused x) → Listed
+  told k p h e = let q : k ≡ x .number = cc in subst (λ j. T (withRoom room j)) q h
 
-  next : (b : Bool) (k p : ℕ) (rest : Answered) → T (ofTexts k) → cond b (refuse k p) rest ≡ Refused x → (rest ≡ Refused x → Listed) → Listed
-  next true k p rest h e later = told k p h e
-  next false k p rest h e later = later e
+  next : (b : Bool) (k p : ℕ) (rest : Answered) → (T b → T (withRoom room k)) → cond b (refuse k p) rest ≡ Refused x → (T (not b) → rest ≡ Refused x → Listed) → Listed
+  next true k p rest h e later = told k p (h tt) e
+  next false k p rest h e later = later tt e
 
   -- the same for the check of the table
-  next-checked : (k : ℕ) (p : ℕ → Bool) (n : ℕ) (rest : Checked) → T (ofTexts k) → searched k p n rest ≡ TableRefused x → (rest ≡ TableRefused x → Listed) → Listed
-  next-checked k p n rest h e later = go (ltb (first p n) n) e
-    where
-      go : (b : Bool) → cond b (refused k (first p n)) rest ≡ TableRefused x → Listed
-      go true e = let q : k ≡ x .number = cc in subst (λ j. T (ofTexts j)) q h
-      go false e = later e
+  next-tested : (b : Bool) (k p : ℕ) (rest : Checked) → T (withRoom room k) → cond b (refused k p) rest ≡ TableRefused x → (rest ≡ TableRefused x → Listed) → Listed
+  next-tested true k p rest h e later = let q : k ≡ x .number = cc in subst (λ j. T (withRoom room j)) q h
+  next-tested false k p rest h e later = later e
+
+  next-checked : (k : ℕ) (p : ℕ → Bool) (n : ℕ) (rest : Checked) → T (withRoom room k) → searched k p n rest ≡ TableRefused x → (rest ≡ TableRefused x → Listed) → Listed
+  next-checked k p n rest h e later = next-tested (ltb (first p n) n) k (first p n) rest h e later
 
   sound-not : _≡_ {A = Checked} Sound (TableRefused x) → Listed
   sound-not e = let z : _≡_ {A = ℕ} 0 1 = cc in absurd (omega arith)
 
   sheet-not : (size : ℕ) → _≡_ {A = Answered} (Sheet size) (Refused x) → Listed
   sheet-not size e = let z : _≡_ {A = ℕ} 0 1 = cc in absurd (omega arith)
-
-  next-tested : (b : Bool) (k p : ℕ) (rest : Checked) → T (ofTexts k) → cond b (refused k p) rest ≡ TableRefused x → (rest ≡ TableRefused x → Listed) → Listed
-  next-tested true k p rest h e later = let q : k ≡ x .number = cc in subst (λ j. T (ofTexts j)) q h
-  next-tested false k p rest h e later = later e
 
   -- a table with a start and no bad one is refused 2, 3, 5, 6, 7 or 8
   table-listed : (s l : List ℕ) → 0 < length s → NoneBelow (badStart s l) (length s) → checkOf s l ≡ TableRefused x → Listed
@@ -98,31 +100,44 @@ module _ (x : Refusal) where
       next-checked 7 (unsorted s l) n eight tt e₆ (λ e₇.
       next-checked 8 (unreturned s l) n Sound tt e₇ sound-not)))))
 
-  room-listed : (asked : Summary) (room : ℕ) → roomOf asked room ≡ Refused x → Listed
+  -- of at most 1,024 riders and 60 rounds no sheet needs more than 64,320 bytes
+  room-listed : (asked : Summary) → asked .riders ≤ 1024 → roomOf asked room ≡ Refused x → Listed
   unfolding any
-  room-listed asked room e =
-      next (ltb 60 (asked .rounds)) 11 0 _ tt e (λ e₁.
-      next (ltb room (sizeOf asked)) 12 0 _ tt e₁ (λ e₂.
-      next (ltb (asked .beyond) 65536) 15 (asked .beyond) _ tt e₂ (sheet-not (sizeOf asked))))
+  room-listed asked small e =
+      next (ltb 60 (asked .rounds)) 11 0 _ (λ t. tt) e (λ few e₁.
+      next (ltb room (sizeOf asked)) 12 0 _
+      (λ t. lt→ltb room 64320 (omega (arith, ltb→lt room (sizeOf asked) t, mul-le-mul-right (48 + asked .riders) (nltb→le 60 (asked .rounds) few))))
+      e₁ (λ t e₂.
+      next (ltb (asked .beyond) 65536) 15 (asked .beyond) _ (λ s. tt) e₂ (λ s. sheet-not (sizeOf asked))))
 
-  asked-listed : (asked : Summary) (s l : List ℕ) (room : ℕ) → 0 < length s → NoneBelow (badStart s l) (length s) → askedOf asked s l room ≡ Refused x → Listed
+  asked-listed : (asked : Summary) (s l : List ℕ) → 0 < length s → NoneBelow (badStart s l) (length s) → askedOf asked s l room ≡ Refused x → Listed
   unfolding askedOf any
-  asked-listed asked s l room some none e =
-      next (ltb 1024 (asked .riders)) 2 0 _ tt e (λ e₁.
-      next (ltb 16384 (asked .links)) 3 0 _ tt e₁ (go (checkOf s l) refl))
+  asked-listed asked s l some none e =
+      next (ltb 1024 (asked .riders)) 2 0 _ (λ t. tt) e (λ small e₁.
+      next (ltb 16384 (asked .links)) 3 0 _ (λ t. tt) e₁ (λ t. go (nltb→le 1024 (asked .riders) small) (checkOf s l) refl))
     where
-      go : (c : Checked) → checkOf s l ≡ c → (elim c [ Sound ↦ roomOf asked room | TableRefused y ↦ Refused y ]) ≡ Refused x → Listed
-      go Sound q e = room-listed asked room e
-      go (TableRefused y) q e = table-listed s l some none (q ∙ ap TableRefused (same y e))
+      go : asked .riders ≤ 1024 → (c : Checked) → checkOf s l ≡ c → (elim c [ Sound ↦ roomOf asked room | TableRefused y ↦ Refused y ]) ≡ Refused x → Listed
+      go small Sound q e = room-listed asked small e
+      go small (TableRefused y) q e = table-listed s l some none (q ∙ ap TableRefused (same y e))
         where
           same : (y : Refusal) → _≡_ {A = Answered} (Refused y) (Refused x) → y ≡ x
           same y e = cc
 
-  -- no other number: never 1, 4, 9, 10, 13, 14 or 16
-  pub refused-listed : (t : List ℕ) (room : ℕ) → answerOf t room ≡ Refused x → T (ofTexts (x .number))
+  answer-listed : (t : List ℕ) → answerOf t room ≡ Refused x → Listed
   unfolding answerOf any
-  refused-listed t room e = next (ltb 65536 (length t)) 17 0 _ tt e (go (readingOf t) refl)
+  answer-listed t e = next (ltb 65536 (length t)) 17 0 _ (λ s. tt) e (λ s. go (readingOf t) refl)
     where
       go : (c : Reading) → readingOf t ≡ c → (elim c [ Read asked ↦ askedOf asked (startsRead t) (linksRead t) room | Departs line ↦ refuse 18 line ]) ≡ Refused x → Listed
-      go (Read asked) q e = asked-listed asked (startsRead t) (linksRead t) room (omega (arith, table-read t asked q .count)) (starts-good t asked q) e
+      go (Read asked) q e = asked-listed asked (startsRead t) (linksRead t) (omega (arith, table-read t asked q .count)) (starts-good t asked q) e
       go (Departs line) q e = told 18 line tt e
+
+module _ (x : Refusal) (t : List ℕ) (room : ℕ) where
+  -- no other number: never 1, 4, 9, 10, 13, 14 or 16
+  pub refused-listed : answerOf t room ≡ Refused x → T (ofTexts (x .number))
+  refused-listed e = and-l (ofTexts (x .number)) _ (answer-listed x room t e)
+
+  -- with room for 64,320 bytes no text is refused with 12
+  pub room-enough : 64320 ≤ room → answerOf t room ≡ Refused x → x .number ≡ 12 → ⊥
+  room-enough h e q = or-e (not (eqb (x .number) 12)) _ (and-r (ofTexts (x .number)) _ (answer-listed x room t e))
+      (λ s. neqb (x .number) 12 s q)
+      (λ s. absurd (omega (arith, ltb→lt room 64320 s)))

@@ -21,8 +21,8 @@ use Rattle.finite.proofs.Pairs.{pair-no, pair-e}
 use Rattle.table.specs.Table.{vertices, neighbors}
 use Rattle.anchored.specs.Graph.{Graph, Simple}
 use Rattle.anchored.specs.Core.{level, layer, greater}
-use Rattle.anchored.specs.Followers.{firstStep, candidates}
-use Rattle.anchored.proofs.Candidates.{Walk, start, step, walk-lt, candidates-unique}
+use Rattle.anchored.specs.Followers.{firstStep, Walk, start, step, candidates}
+use Rattle.anchored.proofs.Candidates.{walk-lt, candidates-unique}
 use Rattle.shells.specs.Input.{graphOf, anchoredBy}
 use Rattle.candidates.specs.Reaching.{Sheet, alike, greaterOf, stepsOf, visit, visitAll, Queued}
 use Rattle.shells.proofs.Laws.{simple, free-byte, byte-free}

@@ -25,6 +25,10 @@ simple s l t = record {
   symmetric = t .symmetric;
 }
 
+-- the graph of a table that the check accepts is simple: what every theorem about graphs asks for
+pub checked-simple : (s l : List ℕ) → checkOf s l ≡ Sound → Simple (graphOf s l)
+checked-simple s l e = simple s l (sound s l e)
+
 -- where only `Sound` goes on to the rest, a sound answer went on
 pub went-through : (first rest : Checked) → (elim first [ Sound ↦ rest | Refused r ↦ Refused r ]) ≡ Sound → (first ≡ Sound) × (rest ≡ Sound)
 went-through Sound rest e = (refl, e)

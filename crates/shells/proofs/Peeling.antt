@@ -17,9 +17,9 @@ use Rattle.finite.proofs.Search.{member-i, member-e, member-past, count-one}
 use Rattle.finite.proofs.Pairs.{pair-lt, pair-eq, pair-e, pair-trans, pair-first, pair-before}
 use Rattle.anchored.specs.Graph.{Graph, Simple}
 use Rattle.anchored.specs.Core.{level, layer}
-use Rattle.anchored.specs.Sheet.{atLeast, support}
+use Rattle.anchored.specs.Sheet.{atLeast, support, Fits}
 use Rattle.anchored.proofs.Core.{degree-lt}
-use Rattle.anchored.proofs.Sheet.{Fits, local-agree}
+use Rattle.anchored.proofs.Sheet.{local-agree}
 use Rattle.shells.specs.Peeling.{unset, present, Stands, Struck, Peeling, Told}
 
 -- ---- a vertex gets its level and its layer

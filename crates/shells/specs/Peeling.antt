@@ -12,8 +12,7 @@ use Rattle.finite.specs.Search.{member}
 use Rattle.finite.specs.Pairs.{pairLe}
 use Rattle.table.specs.Table.{vertices}
 use Rattle.anchored.specs.Graph.{Graph, Simple}
-use Rattle.anchored.specs.Sheet.{atLeast}
-use Rattle.anchored.proofs.Sheet.{Fits}
+use Rattle.anchored.specs.Sheet.{atLeast, Fits}
 use Rattle.shells.specs.Input.{graphOf, anchoredBy, Admitted}
 
 -- not anchored, and without a level yet
