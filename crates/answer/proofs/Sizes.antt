@@ -1,4 +1,4 @@
--- The size of a sheet, and what it tells. Assumes nothing.
+-- The size of a sheet, and what it depends on. Assumes nothing.
 use mathlib.Core.Path.{_≡_, refl, sym, ap, _∙_}
 use mathlib.Core.Bool.{Bool}
 use mathlib.Core.List.{List}
@@ -32,7 +32,7 @@ text-length t =
     let A : ℕ → Bool = λ v. member v (retainedRead t) in
     sheet-length (G .size) 1 (roundsOf G A (roundsAsked t)) ∙ ap (λ k. k * (48 + G .size)) (rounds-length G A (roundsAsked t))
 
--- the size tells the numbers of riders and rounds and nothing else: two texts that agree in these have sheets of equal length
+-- the size depends on the numbers of riders and rounds alone: two texts that agree in these have sheets of equal length
 pub same-length : (t u : List ℕ) → vertices (startsRead t) ≡ vertices (startsRead u) → roundsAsked t ≡ roundsAsked u → length (sheetOfText t) ≡ length (sheetOfText u)
 same-length t u n r = rw (text-length t, text-length u, n, r)
 

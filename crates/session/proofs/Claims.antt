@@ -24,7 +24,7 @@ use Rattle.anchored.proofs.Anchor.{free-adding}
 use Rattle.anchored.proofs.Session.{status-free, turn-accepted, turn-refused, row-accepted, row-refused, after-more, after-prefix, after-beyond, followers-marks, level-lifted}
 use Rattle.anchored.proofs.Step.{kept-followers}
 use Rattle.shells.specs.Input.{graphOf, anchoredBy, admitOf, Admitted}
-use Rattle.shells.proofs.Laws.{simple, went-through, admitted, admits}
+use Rattle.shells.proofs.Laws.{checked-simple, went-through, admitted, admits}
 use Rattle.level.specs.SheetCheck.{Accepted}
 use Rattle.level.proofs.Laws.{accepts}
 use Rattle.search.specs.declared.operation.Searched.the-variants.{Found}
@@ -75,7 +75,7 @@ module _ (s l given requests : List ℕ) (accepted : admitOf s l given ≡ Sound
   given-admitted = admitted s l given accepted
 
   L : Simple G
-  L = simple s l (given-admitted .table)
+  L = checked-simple s l table-sound
 
   -- ---- one record
 
