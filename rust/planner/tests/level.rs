@@ -90,8 +90,8 @@ impl Compared {
         *self.answers.entry((operation, answer.as_ref().err().map_or(0, |e| e.number))).or_default() += 1;
     }
 
-    fn calls(&self) -> usize {
-        self.answers.values().sum()
+    fn calls(&self, operation: &str) -> usize {
+        self.answers.iter().filter(|((called, _), _)| *called == operation).map(|(_, count)| count).sum()
     }
 
     fn met(&self, number: u64) -> bool {
@@ -217,7 +217,7 @@ fn all_small_graphs() {
         damaged.right_and_wrong(&Case::naive(&pool), 0..=pool.size());
     }
     println!("all graphs of up to 5 vertices with every anchor set: {right:?}");
-    println!("{} calls with a wrong length or sheet, {} on damaged pools", wrong.calls(), damaged.calls());
+    println!("with wrong lengths and sheets: {:?}; with {} damaged pools", wrong.answers, damaged.calls("check"));
 
     // 1 + 2 + 8 + 64 + 1,024 + 32,768 pools of 0 to 5 vertices; each vertex is free in half of them: 1 + 8 + 96 + 2,048 + 81,920
     let (pools, free) = (33_867, 84_073);
@@ -240,6 +240,7 @@ fn all_small_graphs() {
         (("followers", 14), 2 * 2 * numbers),
     ];
     assert_eq!(wrong.answers, expected.into());
+    assert_eq!(damaged.calls("check"), pools);
     assert!(DAMAGES.into_iter().all(|number| damaged.met(number)));
 
     if pools::long() {
@@ -258,8 +259,8 @@ fn random_graphs() {
         let pool = pool.damaged(&mut random);
         damaged.right_and_wrong(&Case::naive(&pool), 0..=pool.size());
     }
-    println!("{count} random graphs: {sound:?}; {} calls on them damaged", damaged.calls());
-    assert_eq!(sound.answers[&("work", 0)], count);
+    println!("{count} random graphs, each also damaged: {sound:?}");
+    assert_eq!((sound.answers[&("check", 0)], damaged.calls("check")), (count, count));
     assert!([0, 12, 13, 14, 15, 16].into_iter().all(|number| sound.met(number)));
     assert!(DAMAGES.into_iter().all(|number| damaged.met(number)));
 }
