@@ -1,178 +1,301 @@
-//! Levels, layers, components, the sheet check and the search against the naive working, on all small graphs and many random ones,
-//! valid and damaged. PLANNER_LONG=1 runs more.
+//! Every operation on a table, anchors and a level sheet against the naive working: on all small graphs and many random ones, with
+//! right and with wrong lengths, sheets and tables; large graphs against the quick working. PLANNER_LONG=1 runs more.
 
 mod shared;
 
 use planner::Refusal;
 use pools::{Pool, Random};
-use reference::quick;
-use shared::{broken, held, input, refusal};
-use std::collections::BTreeSet;
+use reference::{quick, Anchoring, Search, Sheet};
+use shared::{anchor_set, broken, held, input, plain, refusal, small_pools, wrong_lengths, DAMAGES};
+use std::collections::BTreeMap;
 
-/// All operations on one case; which refusals came.
-fn compare(c: &Pool, seen: &mut BTreeSet<u64>, random: &mut Random) {
-    let note = |r: &Result<(), Refusal>, seen: &mut BTreeSet<u64>| {
-        if let Err(e) = r {
-            seen.insert(e.number);
-        }
-    };
-    let admitted = reference::admit(&c.starts, &c.links, &c.anchored);
-    let n = c.size();
-    // an output slice of a wrong length now and then
-    let size = |random: &mut Random| if random.one_in(12) { n + 1 } else { n };
-    let (a, b, d) = (size(random), size(random), size(random));
-    let short = (a, b, d) != (n, n, n);
-    let (mut levels, mut layers, mut components) = (held(a, 1), held(b, 2), held(d, 3));
-    let answer = planner::work(input(c), &mut levels, &mut layers, &mut components);
-    note(&answer, seen);
-    match &admitted {
-        Err(e) => assert_eq!(answer, Err(refusal(*e)), "{c:?}"),
-        Ok(_) if short => assert_eq!(answer, Err(Refusal { number: 12, place: 0 })),
-        Ok((graph, set)) => {
-            assert_eq!(answer, Ok(()));
-            let sheet = reference::sheet(graph, set);
-            assert_eq!((&levels, &layers, &components), (&sheet.level, &sheet.layer, &sheet.component), "{c:?}");
-        }
-    }
-    if answer.is_err() {
-        assert_eq!((levels, layers, components), (held(a, 1), held(b, 2), held(d, 3)), "{c:?}");
-    }
-
-    let (mut levels, mut sizes, mut numbers) = (held(a, 4), held(b, 5), held(d, 6));
-    let listed = planner::list_components(input(c), &mut levels, &mut sizes, &mut numbers);
-    match (&admitted, short) {
-        (Ok((graph, set)), false) => {
-            let count = listed.unwrap();
-            let got: BTreeSet<_> = (0..count).map(|i| (levels[i], sizes[i], numbers[i])).collect();
-            assert_eq!((got.len(), got), (count, reference::components(graph, set)), "{c:?}");
-            assert_eq!(levels[count..], held(a, 4)[count..]);
-            assert_eq!(sizes[count..], held(b, 5)[count..]);
-            assert_eq!(numbers[count..], held(d, 6)[count..]);
-        }
-        _ => {
-            assert_eq!(listed.map(|_| ()), answer);
-            assert_eq!((levels, sizes, numbers), (held(a, 4), held(b, 5), held(d, 6)));
-        }
-    }
-    compare_sheet(c, &admitted, seen, random);
+/// What is defined for a sound pool; the sheet is worked out once for all calls.
+struct Defined<'a> {
+    sheet: Sheet,
+    search: Box<dyn Fn(usize) -> Search + 'a>,
 }
 
-/// The sheet check and the search, on the defined sheet and on one that may be damaged.
-fn compare_sheet(c: &Pool, admitted: &Result<(reference::Graph, Vec<bool>), reference::Refusal>, seen: &mut BTreeSet<u64>, random: &mut Random) {
-    let n = c.size();
-    let (mut levels, mut layers) = match admitted {
-        Ok((graph, set)) => {
-            let sheet = reference::sheet(graph, set);
-            (sheet.level, sheet.layer)
-        }
-        Err(_) => (vec![0; n], vec![1; n]),
-    };
-    match random.below(6) {
-        0 if n > 0 => levels[random.below(n)] = random.below(4) as u16,
-        1 if n > 0 => layers[random.below(n)] = random.below(4) as u16,
-        2 => levels.push(0),
-        3 => layers.push(0),
-        _ => {}
-    }
-    let expected = match admitted {
-        Err(e) => Err(refusal(*e)),
-        Ok((graph, set)) => reference::check_sheet(graph, set, &levels, &layers).map_err(refusal),
-    };
-    if let Err(e) = expected {
-        seen.insert(e.number);
-    }
-    assert_eq!(planner::check_sheet(input(c), &levels, &layers), expected, "{c:?} {levels:?} {layers:?}");
+/// A pool, and what is defined for it or why it is refused.
+struct Case<'a> {
+    pool: &'a Pool,
+    defined: Result<Defined<'a>, Refusal>,
+}
 
-    let x = random.below(n + 2);
-    let room = if random.one_in(10) { n + 1 } else { n };
-    let mut marks = vec![9u8; room];
-    let found = planner::followers(input(c), &levels, &layers, x, &mut marks);
-    let wanted = match admitted {
-        Err(e) => Err(refusal(*e)),
-        Ok(_) if room != n => Err(Refusal { number: 12, place: 0 }),
-        Ok((graph, set)) => match expected {
-            Err(e) => Err(e),
-            Ok(()) if x >= n => Err(Refusal { number: 15, place: x as u64 }),
-            Ok(()) if set[x] => Err(Refusal { number: 16, place: x as u64 }),
-            Ok(()) => Ok(reference::search(graph, set, x)),
-        },
-    };
-    match wanted {
-        Err(e) => {
-            seen.insert(e.number);
-            assert_eq!(found, Err(e), "{c:?}");
-            assert_eq!(marks, vec![9u8; room]);
+impl Case<'_> {
+    fn naive(pool: &Pool) -> Case<'_> {
+        let admitted = reference::admit(&pool.starts, &pool.links, &pool.anchored).map_err(refusal);
+        let defined = admitted.map(|(graph, set)| {
+            let at = Anchoring::new(&graph, &set);
+            Defined { sheet: at.sheet.clone(), search: Box::new(move |x| reference::search(&graph, &at, x)) }
+        });
+        Case { pool, defined }
+    }
+
+    /// A sound pool by the quick working.
+    fn quick(pool: &Pool) -> Case<'_> {
+        let set = anchor_set(pool);
+        let sheet = quick::sheet(plain(pool), &set);
+        let defined = Defined { sheet: sheet.clone(), search: Box::new(move |x| quick::search(plain(pool), &set, &sheet, x)) };
+        Case { pool, defined: Ok(defined) }
+    }
+
+    /// What is defined, where the lent slices have the right length.
+    fn lent(&self, lengths: &[usize]) -> Result<&Defined<'_>, Refusal> {
+        let defined = self.defined.as_ref().map_err(|e| *e)?;
+        if lengths.iter().any(|&length| length != self.pool.size()) {
+            return Err(Refusal { number: 12, place: 0 });
         }
-        Ok((expected_marks, lifted, reached)) => {
-            assert_eq!(found, Ok((lifted, reached)), "{c:?} {x}");
-            assert_eq!(marks, expected_marks, "{c:?} {x}");
+        Ok(defined)
+    }
+
+    /// The defined levels and layers, or as many numbers where nothing is defined.
+    fn sheet(&self) -> [Vec<u16>; 2] {
+        match &self.defined {
+            Ok(Defined { sheet, .. }) => [sheet.level.clone(), sheet.layer.clone()],
+            Err(_) => [vec![0; self.pool.size()], vec![1; self.pool.size()]],
         }
+    }
+
+    /// Sheets other than the given one: a half too short or too long, a number one too low or too high.
+    fn wrong_sheets(&self) -> impl Iterator<Item = [Vec<u16>; 2]> + '_ {
+        let n = self.pool.size();
+        (0..2).flat_map(move |half| {
+            let lengths = wrong_lengths(n).map(move |length| {
+                let mut sheet = self.sheet();
+                sheet[half].resize(length, 0);
+                sheet
+            });
+            let numbers = (0..n).flat_map(move |v| {
+                [1, u16::MAX].map(|change| {
+                    let mut sheet = self.sheet();
+                    sheet[half][v] = sheet[half][v].wrapping_add(change);
+                    sheet
+                })
+            });
+            lengths.chain(numbers)
+        })
+    }
+}
+
+/// How many calls of each operation gave each number, 0 where it accepted; how many vertices the accepted searches marked.
+#[derive(Default, PartialEq, Debug)]
+struct Compared {
+    answers: BTreeMap<(&'static str, u64), usize>,
+    lifted: usize,
+    reached: usize,
+}
+
+impl Compared {
+    fn note<T>(&mut self, operation: &'static str, answer: &Result<T, Refusal>) {
+        *self.answers.entry((operation, answer.as_ref().err().map_or(0, |e| e.number))).or_default() += 1;
+    }
+
+    fn calls(&self, operation: &str) -> usize {
+        self.answers.iter().filter(|((called, _), _)| *called == operation).map(|(_, count)| count).sum()
+    }
+
+    fn met(&self, number: u64) -> bool {
+        self.answers.keys().any(|&(_, met)| met == number)
+    }
+
+    fn check(&mut self, case: &Case) {
+        let expected = match case.defined {
+            Err(e) if e.number < 9 => Err(e),
+            _ => Ok(()),
+        };
+        assert_eq!(planner::check(&case.pool.starts, &case.pool.links), expected, "{:?}", case.pool);
+        self.note("check", &expected);
+    }
+
+    fn work(&mut self, case: &Case, lengths: [usize; 3]) {
+        let before = [0, 1, 2].map(|i| held(lengths[i], i as u16));
+        let mut lent = before.clone();
+        let [levels, layers, components] = &mut lent;
+        let answer = planner::work(input(case.pool), levels, layers, components);
+        let expected = case.lent(&lengths).map(|Defined { sheet: Sheet { level, layer, component }, .. }| [level, layer, component]);
+        assert_eq!(answer, expected.map(|_| ()), "{:?} {lengths:?}", case.pool);
+        assert_eq!(lent.each_ref(), expected.unwrap_or(before.each_ref()), "{:?} {lengths:?}", case.pool);
+        self.note("work", &answer);
+    }
+
+    fn list_components(&mut self, case: &Case, lengths: [usize; 3]) {
+        let before = [0, 1, 2].map(|i| held(lengths[i], 3 + i as u16));
+        let mut lent = before.clone();
+        let [levels, sizes, numbers] = &mut lent;
+        let answer = planner::list_components(input(case.pool), levels, sizes, numbers);
+        let components = case.lent(&lengths).map(|defined| defined.sheet.components());
+        let expected = components.as_ref().map(|components| components.len()).map_err(|e| *e);
+        assert_eq!(answer, expected, "{:?} {lengths:?}", case.pool);
+        let count = expected.unwrap_or(0);
+        let mut listed: Vec<(u16, u16, u16)> = (0..count).map(|i| (lent[0][i], lent[1][i], lent[2][i])).collect();
+        listed.sort();
+        assert!(listed.iter().eq(components.iter().flatten()), "{:?} {listed:?}", case.pool);
+        for (lent, before) in lent.iter().zip(&before) {
+            assert_eq!(lent[count..], before[count..], "{:?} {lengths:?}", case.pool);
+        }
+        self.note("list_components", &answer);
+    }
+
+    fn check_sheet(&mut self, case: &Case, [levels, layers]: &[Vec<u16>; 2]) {
+        let expected = case.lent(&[]).and_then(|defined| defined.sheet.check(levels, layers).map_err(refusal));
+        assert_eq!(planner::check_sheet(input(case.pool), levels, layers), expected, "{:?} {levels:?} {layers:?}", case.pool);
+        self.note("check_sheet", &expected);
+    }
+
+    fn followers(&mut self, case: &Case, [levels, layers]: &[Vec<u16>; 2], x: usize, length: usize) {
+        let expected = case.lent(&[length]).and_then(|defined| {
+            defined.sheet.check(levels, layers).map_err(refusal)?;
+            match case.pool.anchored.get(x) {
+                None => Err(Refusal { number: 15, place: x as u64 }),
+                Some(1) => Err(Refusal { number: 16, place: x as u64 }),
+                Some(_) => Ok((defined.search)(x)),
+            }
+        });
+        let before: Vec<u8> = (0..length).map(|i| 100 + i as u8 % 100).collect();
+        let mut marks = before.clone();
+        let answer = planner::followers(input(case.pool), levels, layers, x, &mut marks);
+        let counts = expected.as_ref().map(|found| (found.followers, found.candidates)).map_err(|e| *e);
+        assert_eq!(answer, counts, "{:?} {x} {levels:?} {layers:?}", case.pool);
+        assert_eq!(marks, expected.map_or(before, |found| found.marks), "{:?} {x}", case.pool);
+        self.note("followers", &answer);
+        let (lifted, reached) = answer.unwrap_or((0, 0));
+        self.lifted += lifted;
+        self.reached += reached;
+    }
+
+    /// Every operation with right lengths and the defined sheet, the search from each of some vertices.
+    fn right(&mut self, case: &Case, starts: impl IntoIterator<Item = usize>) {
+        let (n, sheet) = (case.pool.size(), case.sheet());
+        self.check(case);
+        self.work(case, [n; 3]);
+        self.list_components(case, [n; 3]);
+        self.check_sheet(case, &sheet);
+        for x in starts {
+            self.followers(case, &sheet, x, n);
+        }
+    }
+
+    /// Every operation with each lent slice one too short and one too long, and with each wrong sheet.
+    fn wrong(&mut self, case: &Case) {
+        let n = case.pool.size();
+        for length in wrong_lengths(n) {
+            for slice in 0..3 {
+                let mut lengths = [n; 3];
+                lengths[slice] = length;
+                self.work(case, lengths);
+                self.list_components(case, lengths);
+            }
+            // 12 comes before 13
+            for sheet in [case.sheet(), [vec![], vec![0]]] {
+                self.followers(case, &sheet, 0, length);
+            }
+        }
+        for sheet in case.wrong_sheets() {
+            self.check_sheet(case, &sheet);
+            // 13 and 14 come before 15
+            for x in [0, n] {
+                self.followers(case, &sheet, x, n);
+            }
+        }
+    }
+
+    fn right_and_wrong(&mut self, case: &Case, starts: impl IntoIterator<Item = usize>) {
+        self.right(case, starts);
+        self.wrong(case);
     }
 }
 
 #[test]
 fn all_small_graphs() {
-    let (mut seen, mut random, mut count) = (BTreeSet::new(), Random(88172645463325252), 0);
-    for n in 0..=if pools::long() { 6 } else { 5 } {
-        for pool in Pool::all(n) {
-            compare(&pool, &mut seen, &mut random);
-            count += 1;
-        }
+    let (mut right, mut wrong, mut damaged) = (Compared::default(), Compared::default(), Compared::default());
+    let mut random = Random(88172645463325252);
+    for pool in small_pools(5) {
+        let case = Case::naive(&pool);
+        right.right(&case, 0..=pool.size());
+        wrong.wrong(&case);
+        let pool = pool.damaged(&mut random);
+        damaged.right_and_wrong(&Case::naive(&pool), 0..=pool.size());
     }
-    println!("{count} graphs with every anchor set");
+    println!("all graphs of up to 5 vertices with every anchor set: {right:?}");
+    println!("with wrong lengths and sheets: {:?}; with {} damaged pools", wrong.answers, damaged.calls("check"));
+
+    // 1 + 2 + 8 + 64 + 1,024 + 32,768 pools of 0 to 5 vertices; each vertex is free in half of them: 1 + 8 + 96 + 2,048 + 81,920
+    let (pools, free) = (33_867, 84_073);
+    let operations = ["check", "work", "list_components", "check_sheet"].map(|operation| ((operation, 0), pools));
+    // a search from each vertex, free or anchored, and one from n
+    let searches = [0, 15, 16].map(|number| ("followers", number)).into_iter().zip([free, pools, free]);
+    assert_eq!(right.answers, operations.into_iter().chain(searches).collect());
+    assert!(0 < right.lifted && right.lifted < right.reached);
+
+    // too short and too long, but where there are no vertices only too long; too low and too high for each vertex, free or anchored
+    let (lengths, numbers) = (2 * pools - 1, 2 * 2 * free);
+    let expected = [
+        (("work", 12), 3 * lengths),
+        (("list_components", 12), 3 * lengths),
+        (("followers", 12), 2 * lengths),
+        // in either half of the sheet; two searches with each sheet
+        (("check_sheet", 13), 2 * lengths),
+        (("check_sheet", 14), 2 * numbers),
+        (("followers", 13), 2 * 2 * lengths),
+        (("followers", 14), 2 * 2 * numbers),
+    ];
+    assert_eq!(wrong.answers, expected.into());
+    assert_eq!(damaged.calls("check"), pools);
+    assert!(DAMAGES.into_iter().all(|number| damaged.met(number)));
+
+    if pools::long() {
+        Pool::all(6).for_each(|pool| right.right_and_wrong(&Case::naive(&pool), 0..=6));
+        println!("with all graphs of 6 vertices: {right:?}");
+    }
 }
 
 #[test]
 fn random_graphs() {
-    let (mut seen, mut random) = (BTreeSet::new(), Random(2463534242));
+    let (mut sound, mut damaged, mut random) = (Compared::default(), Compared::default(), Random(2463534242));
     let count = if pools::long() { 200000 } else { 20000 };
     for i in 0..count {
         let pool = Pool::random_small(&mut random, if i % 20 == 0 { 40 } else { 12 });
-        compare(&pool, &mut seen, &mut random);
-        compare(&pool.damaged(&mut random), &mut seen, &mut random);
+        sound.right_and_wrong(&Case::naive(&pool), 0..=pool.size());
+        let pool = pool.damaged(&mut random);
+        damaged.right_and_wrong(&Case::naive(&pool), 0..=pool.size());
     }
-    println!("{count} random graphs, each also damaged; refusals {seen:?}");
-    for number in [1, 4, 5, 6, 7, 8, 9, 10, 12, 13, 14, 15, 16] {
-        assert!(seen.contains(&number), "refusal {number} was not met");
-    }
+    println!("{count} random graphs, each also damaged: {sound:?}");
+    assert_eq!((sound.answers[&("check", 0)], damaged.calls("check")), (count, count));
+    assert!([0, 12, 13, 14, 15, 16].into_iter().all(|number| sound.met(number)));
+    assert!(DAMAGES.into_iter().all(|number| damaged.met(number)));
 }
 
 #[test]
 fn refusals_and_limits() {
-    let (mut seen, mut random) = (BTreeSet::new(), Random(521288629));
+    let mut compared = Compared::default();
     for (pool, e) in broken() {
-        let (mut levels, mut layers, mut components) = (held(pool.size(), 1), held(pool.size(), 2), held(pool.size(), 3));
-        assert_eq!(planner::work(input(&pool), &mut levels, &mut layers, &mut components), Err(e), "{pool:?}");
-        compare(&pool, &mut seen, &mut random);
+        let case = Case::naive(&pool);
+        assert_eq!(case.defined.as_ref().err(), Some(&e), "{pool:?}");
+        compared.right_and_wrong(&case, [0, pool.size()]);
     }
-    compare(&Pool::of_edges(1024, [], vec![0; 1024]), &mut seen, &mut random);
+    let single = Pool::of_edges(1024, [], vec![0; 1024]);
+    compared.right_and_wrong(&Case::naive(&single), [0, 1023, 1024]);
     let both = (0..64).flat_map(|u| (64..192).map(move |v| (u, v)));
     let full = Pool::of_edges(192, both, vec![0; 192]);
-    let (mut levels, mut layers, mut components) = (vec![0; 192], vec![0; 192], vec![0; 192]);
-    planner::work(input(&full), &mut levels, &mut layers, &mut components).unwrap();
-    assert_eq!(levels, vec![64; 192]);
+    let case = Case::quick(&full);
+    assert_eq!(case.sheet(), [vec![64; 192], [vec![2; 64], vec![1; 128]].concat()]);
+    compared.right_and_wrong(&case, 0..=192);
 }
 
-/// Large pools, against the quick working.
+/// Large pools, against the quick working, from every vertex.
 #[test]
 fn large_graphs() {
-    let mut random = Random(123456789);
+    let (mut compared, mut random, mut free) = (Compared::default(), Random(123456789), 0);
     for m in [500, 1500, 4000, 8192] {
         let mut pool = Pool::random(&mut random, 1024, m);
         for _ in 0..random.below(60) {
             pool.anchored[random.below(1024)] = 1;
         }
-        let set: Vec<bool> = pool.anchored.iter().map(|&b| b == 1).collect();
-        let plain = quick::Pool { starts: &pool.starts, links: &pool.links };
-        let sheet = quick::sheet(plain, &set);
-        let (mut levels, mut layers, mut components) = (vec![0; 1024], vec![0; 1024], vec![0; 1024]);
-        planner::work(input(&pool), &mut levels, &mut layers, &mut components).unwrap();
-        assert_eq!((&levels, &layers, &components), (&sheet.level, &sheet.layer, &sheet.component));
-        let counts = quick::follower_counts(plain, &set);
-        let mut marks = vec![0; 1024];
-        for x in (0..1024).filter(|&x| !set[x]) {
-            let (lifted, _) = planner::followers(input(&pool), &levels, &layers, x, &mut marks).unwrap();
-            assert_eq!(lifted, counts[x] as usize);
-        }
+        compared.right(&Case::quick(&pool), 0..=1024);
+        free += pool.anchored.iter().filter(|&&byte| byte == 0).count();
     }
+    println!("4 graphs of 1,024 vertices: {compared:?}");
+    assert_eq!(compared.answers[&("followers", 0)], free);
+    assert_eq!(compared.answers[&("followers", 16)], 4 * 1024 - free);
+    assert!(0 < compared.lifted && compared.lifted < compared.reached);
 }

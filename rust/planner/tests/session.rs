@@ -6,7 +6,7 @@ mod shared;
 use planner::{Record, Refusal};
 use pools::{Pool, Random};
 use reference::quick;
-use shared::{broken, held, input, refusal};
+use shared::{anchor_set, broken, held, input, plain, refusal, small_pools, wrong_lengths, DAMAGES};
 use std::collections::BTreeSet;
 
 /// Room for n vertices and m requests, with contents that no answer gives by chance.
@@ -61,9 +61,7 @@ fn compare(pool: &Pool, requests: &[u16]) {
 
 /// The same against the quick working.
 fn compare_large(pool: &Pool, requests: &[u16]) {
-    let set: Vec<bool> = pool.anchored.iter().map(|&b| b == 1).collect();
-    let plain = quick::Pool { starts: &pool.starts, links: &pool.links };
-    assert!(accepted(pool, requests) == recorded(quick::session(plain, &set, requests)));
+    assert!(accepted(pool, requests) == recorded(quick::session(plain(pool), &anchor_set(pool), requests)));
 }
 
 /// Random names: repeats, and some of n or more.
@@ -73,35 +71,96 @@ fn random_requests(random: &mut Random, n: usize, most: usize) -> Vec<u16> {
         .collect()
 }
 
+/// A record with each of its nine slices in turn one too short and one too long.
+fn wrong_records(n: usize, m: usize) -> Vec<Record> {
+    let with = |change: &dyn Fn(&mut Record)| {
+        let mut record = lent(n, m);
+        change(&mut record);
+        record
+    };
+    let vertices = wrong_lengths(n).flat_map(|length| {
+        [
+            with(&|record| record.anchored.resize(length, 7)),
+            with(&|record| record.levels.resize(length, 7)),
+            with(&|record| record.layers.resize(length, 7)),
+            with(&|record| record.components.resize(length, 7)),
+            with(&|record| record.followers.resize(length, 7)),
+            with(&|record| record.stamps.resize(length, 7)),
+        ]
+    });
+    let requests = wrong_lengths(m).flat_map(|length| {
+        [
+            with(&|record| record.status.resize(length, 7)),
+            with(&|record| record.lifted.resize(length, 7)),
+            with(&|record| record.redone.resize(length, 7)),
+        ]
+    });
+    vertices.chain(requests).collect()
+}
+
+/// A pool that may be damaged; the refusal's number.
+fn compare_damaged(pool: &Pool, requests: &[u16]) -> Option<u64> {
+    let Err(e) = reference::admit(&pool.starts, &pool.links, &pool.anchored) else {
+        compare(pool, requests);
+        return None;
+    };
+    let Refusal { number, place } = refusal(e);
+    refused(pool, requests, lent(pool.size(), requests.len()), number, place);
+    Some(number)
+}
+
+/// Every list of so many names from 0 to n, of which n is unknown.
+fn lists(n: u16, length: usize) -> Vec<Vec<u16>> {
+    match length {
+        0 => vec![vec![]],
+        _ => lists(n, length - 1).iter().flat_map(|list| (0..=n).map(|x| [&list[..], &[x]].concat())).collect(),
+    }
+}
+
+/// Every list of up to two names on all graphs of up to 5 vertices with every anchor set, and of three to 4 vertices.
 #[test]
 fn all_small_graphs() {
-    let (mut count, mut random) = (0, Random(3141592653));
-    for n in 0..=4u16 {
-        // every list of up to three names, unknown ones too; longer ones where asked
-        let mut lists: Vec<Vec<u16>> = vec![vec![]];
-        let mut last = lists.clone();
-        for _ in 0..if pools::long() { 4 } else { 3 } {
-            last = last.iter().flat_map(|list| (0..=n).map(|x| [list.clone(), vec![x]].concat())).collect();
-            lists.extend(last.clone());
-        }
-        lists.push((0..n).collect());
-        lists.push((0..n).rev().collect());
-        lists.push((0..=n).flat_map(|x| [x, x, 65535]).collect());
-        for pool in Pool::all(n as usize) {
-            for list in &lists {
-                compare(&pool, list);
+    let mut sessions = [0; 4];
+    for pool in small_pools(5) {
+        let n = pool.size() as u16;
+        for length in 0..=if n < 5 || pools::long() { 3 } else { 2 } {
+            for list in lists(n, length) {
+                compare(&pool, &list);
+                sessions[length] += 1;
             }
-            compare(&pool, &random_requests(&mut random, n as usize, 9));
-            count += lists.len() + 1;
         }
     }
-    println!("{count} sessions on all graphs of up to 4 vertices with every anchor set");
-    count = 0;
-    for pool in Pool::all(5) {
-        compare(&pool, &random_requests(&mut random, 5, 7));
-        count += 1;
+    println!("sessions on all graphs of up to 5 vertices with every anchor set: {sessions:?} of 0, 1, 2 and 3 names");
+    // 1, 2, 8, 64, 1,024 and 32,768 pools of 0 to 5 vertices, with 1 to 6 names: for one name 1 + 4 + 24 + 256 + 5,120 + 196,608, for
+    // two 1 + 8 + 72 + 1,024 + 25,600 + 1,179,648, for three 1 + 16 + 216 + 4,096 + 128,000
+    let three = 132_329 + if pools::long() { 32_768 * 6 * 6 * 6 } else { 0 };
+    assert_eq!(sessions, [33_867, 202_013, 1_206_353, three]);
+}
+
+/// On the same graphs some longer lists, slices of wrong lengths, too many names, and damage.
+#[test]
+fn all_small_graphs_otherwise() {
+    let (mut more, mut wrong, mut damaged) = (0, 0, 0);
+    let (mut seen, mut random) = (BTreeSet::new(), Random(3141592653));
+    for pool in small_pools(5) {
+        let n = pool.size() as u16;
+        let each = (0..=n).flat_map(|x| [x, x, 65535]).collect();
+        for list in [(0..n).collect(), (0..n).rev().collect(), each, random_requests(&mut random, n as usize, 9)] {
+            compare(&pool, &list);
+            more += 1;
+        }
+        for record in wrong_records(n as usize, 2) {
+            refused(&pool, &[0, n], record, 12, 0);
+            wrong += 1;
+        }
+        refused(&pool, &[0; 4097], lent(n as usize, 4097), 11, 0);
+        seen.extend(compare_damaged(&pool.damaged(&mut random), &[0, n]));
+        damaged += 1;
     }
-    println!("{count} sessions on all graphs of 5 vertices with every anchor set");
+    println!("{more} more sessions on them, {wrong} with a wrong length, {damaged} on damaged pools, refusals {seen:?}");
+    // nine slices too short or too long; the six for vertices are not too short where there are none
+    assert_eq!((more, wrong, damaged), (4 * 33_867, 18 * 33_867 - 6, 33_867));
+    assert_eq!(seen, DAMAGES.into());
 }
 
 #[test]
@@ -144,16 +203,10 @@ fn damaged_pools() {
     for _ in 0..count {
         let pool = Pool::random_small(&mut random, 10).damaged(&mut random);
         let requests = random_requests(&mut random, pool.size(), 4);
-        match reference::admit(&pool.starts, &pool.links, &pool.anchored) {
-            Ok(_) => compare(&pool, &requests),
-            Err(e) => {
-                let e = refusal(e);
-                seen.insert(e.number);
-                refused(&pool, &requests, lent(pool.size(), requests.len()), e.number, e.place);
-            }
-        }
+        seen.extend(compare_damaged(&pool, &requests));
     }
     println!("{count} damaged pools; refusals {seen:?}");
+    assert_eq!(seen, DAMAGES.into());
 }
 
 /// Every refusal of a session as a whole, its place, and two at once.
@@ -168,24 +221,8 @@ fn refusals() {
     refused(&chain, &[0; 4097], lent(4, 4097), 11, 0);
     refused(&chain, &[0; 4097], lent(3, 4097), 11, 0);
     refused(&chain, &[9; 5000], lent(4, 5000), 11, 0);
-    for longer in [false, true] {
-        let bytes = |slice: &mut Vec<u8>| slice.resize(slice.len() + 2 * longer as usize - 1, 7);
-        let words = |slice: &mut Vec<u16>| slice.resize(slice.len() + 2 * longer as usize - 1, 7);
-        for slice in 0..9 {
-            let mut record = lent(4, 3);
-            match slice {
-                0 => bytes(&mut record.anchored),
-                1 => words(&mut record.levels),
-                2 => words(&mut record.layers),
-                3 => words(&mut record.components),
-                4 => words(&mut record.followers),
-                5 => words(&mut record.stamps),
-                6 => words(&mut record.status),
-                7 => words(&mut record.lifted),
-                _ => words(&mut record.redone),
-            }
-            refused(&chain, &[0, 3, 9], record, 12, 0);
-        }
+    for record in wrong_records(4, 3) {
+        refused(&chain, &[0, 3, 9], record, 12, 0);
     }
 }
 

@@ -6,7 +6,7 @@ mod shared;
 use planner::Refusal;
 use pools::{Pool, Random};
 use reference::quick;
-use shared::refusal;
+use shared::{refusal, small_pools};
 use std::collections::BTreeMap;
 
 const LONGEST: usize = 64320;
@@ -131,6 +131,26 @@ fn refusals() {
     refused(&text(3, &[], "", 61), 0, 11, 0);
     refused(&text(3, &[], " 3", 1), 50, 12, 0);
     refused(&text(3, &[], " 3 2", 1), 50, 18, 5);
+}
+
+/// The text of every small pool, with just enough room, with more and with less.
+#[test]
+fn all_small_pools() {
+    let (mut texts, mut lines, mut nobody) = (0, 0, 0);
+    for pool in small_pools(5) {
+        let (text, need) = (pool.text(3), 3 * (48 + pool.size()));
+        let sheet = compare(&text, need).unwrap();
+        assert_eq!(call(&text, need + 1), Ok(sheet.clone()));
+        assert_eq!(call(&text, need - 1), Err(Refusal { number: 12, place: 0 }));
+        let sheet = String::from_utf8(sheet).unwrap();
+        texts += 1;
+        lines += sheet.lines().count();
+        nobody += sheet.matches("(retain ----)").count();
+    }
+    println!("the texts of {texts} pools: {lines} lines, {nobody} of them with nobody left to anchor");
+    // 1 + 2 + 8 + 64 + 1,024 + 32,768 pools of 0 to 5 vertices; a graph of n vertices has one anchor set that leaves none, n that leave
+    // one and n(n-1)/2 that leave two: 3 lines each, 2 and 1, together 3, 5, 8, 12, 17 and 23 for 1, 1, 2, 8, 64 and 1,024 graphs
+    assert_eq!((texts, lines, nobody), (33_867, 3 * 33_867, 24_760));
 }
 
 /// A byte deleted, inserted, replaced, moved; the text cut; a digit put before another.

@@ -33,7 +33,7 @@ pub fn long() -> bool {
 }
 
 /// A table and its anchored bytes, sound or not.
-#[derive(Clone, Debug)]
+#[derive(Clone, PartialEq, Eq, PartialOrd, Ord, Debug)]
 pub struct Pool {
     pub starts: Vec<u16>,
     pub links: Vec<u16>,

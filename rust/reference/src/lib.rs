@@ -82,6 +82,29 @@ pub struct Sheet {
     pub component: Vec<u16>,
 }
 
+impl Sheet {
+    /// The components as (level, size, number), in any order.
+    pub fn components(&self) -> BTreeSet<(u16, u16, u16)> {
+        let numbers: BTreeSet<u16> = self.component.iter().copied().filter(|&p| p != ANCHORED).collect();
+        numbers
+            .into_iter()
+            .map(|p| (self.level[p as usize], self.component.iter().filter(|&&q| q == p).count() as u16, p))
+            .collect()
+    }
+
+    /// Tests 13 and 14 of levels and layers, where this is the defined sheet.
+    pub fn check(&self, level: &[u16], layer: &[u16]) -> Result<(), Refusal> {
+        let n = self.level.len();
+        if level.len() != n || layer.len() != n {
+            return Err((13, 0));
+        }
+        if level != self.level || layer != self.layer {
+            return Err((14, 0));
+        }
+        Ok(())
+    }
+}
+
 pub fn sheet(graph: &Graph, anchored: &[bool]) -> Sheet {
     let n = graph.size();
     let mut level = vec![ANCHORED; n];
@@ -151,41 +174,33 @@ pub fn admit(starts: &[u16], links: &[u16], bytes: &[u8]) -> Result<(Graph, Vec<
     Ok((graph, bytes.iter().map(|&b| b == 1).collect()))
 }
 
-/// The components as (level, size, number), in any order.
-pub fn components(graph: &Graph, anchored: &[bool]) -> BTreeSet<(u16, u16, u16)> {
-    let s = sheet(graph, anchored);
-    let numbers: BTreeSet<u16> = s.component.iter().copied().filter(|&p| p != ANCHORED).collect();
-    numbers
-        .into_iter()
-        .map(|p| (s.level[p as usize], s.component.iter().filter(|&&q| q == p).count() as u16, p))
-        .collect()
+/// Anchors, and the sheet that is defined with them.
+pub struct Anchoring {
+    pub anchored: Vec<bool>,
+    pub sheet: Sheet,
 }
 
-/// Tests 13 and 14.
-pub fn check_sheet(graph: &Graph, anchored: &[bool], level: &[u16], layer: &[u16]) -> Result<(), Refusal> {
-    let n = graph.size();
-    if level.len() != n || layer.len() != n {
-        return Err((13, 0));
+impl Anchoring {
+    pub fn new(graph: &Graph, anchored: &[bool]) -> Anchoring {
+        Anchoring { anchored: anchored.to_vec(), sheet: sheet(graph, anchored) }
     }
-    let s = sheet(graph, anchored);
-    if level != s.level || layer != s.layer {
-        return Err((14, 0));
+
+    /// With x anchored too, everything worked out again.
+    fn with(&self, graph: &Graph, x: usize) -> Anchoring {
+        let mut more = self.anchored.clone();
+        more[x] = true;
+        Anchoring::new(graph, &more)
     }
-    Ok(())
 }
 
-/// Who follows x: a second working of all levels.
-pub fn followers(graph: &Graph, anchored: &[bool], x: usize) -> Vec<bool> {
-    let before = sheet(graph, anchored);
-    let mut more = anchored.to_vec();
-    more[x] = true;
-    let after = sheet(graph, &more);
-    (0..graph.size()).map(|v| !more[v] && after.level[v] > before.level[v]).collect()
+/// Whose level is greater after a step than before, not counting who is anchored.
+fn followers(before: &Anchoring, after: &Anchoring) -> Vec<bool> {
+    (0..after.anchored.len()).map(|v| !after.anchored[v] && after.sheet.level[v] > before.sheet.level[v]).collect()
 }
 
 /// Whom upstair walks from x reach.
-pub fn candidates(graph: &Graph, anchored: &[bool], x: usize) -> Vec<bool> {
-    let s = sheet(graph, anchored);
+fn candidates(graph: &Graph, at: &Anchoring, x: usize) -> Vec<bool> {
+    let Anchoring { anchored, sheet: s } = at;
     let pair = |v: usize| (s.level[v], s.layer[v]);
     let mut hit = vec![false; graph.size()];
     let mut open: Vec<usize> =
@@ -204,20 +219,30 @@ pub fn candidates(graph: &Graph, anchored: &[bool], x: usize) -> Vec<bool> {
     hit
 }
 
-/// Marks, count followers, count candidates.
-pub fn search(graph: &Graph, anchored: &[bool], x: usize) -> (Vec<u8>, usize, usize) {
-    let up = followers(graph, anchored, x);
-    let hit = candidates(graph, anchored, x);
-    let marks: Vec<u8> = (0..graph.size()).map(|v| if up[v] { 2 } else { hit[v] as u8 }).collect();
-    let count = |set: &[bool]| set.iter().filter(|&&b| b).count();
-    (marks, count(&up), count(&hit))
+/// What a search answers.
+#[derive(Clone, PartialEq, Debug)]
+pub struct Search {
+    pub marks: Vec<u8>,
+    pub followers: usize,
+    pub candidates: usize,
 }
 
-pub fn follower_count(graph: &Graph, anchored: &[bool], x: usize) -> u16 {
-    if anchored[x] {
+fn count(set: &[bool]) -> usize {
+    set.iter().filter(|&&b| b).count()
+}
+
+pub fn search(graph: &Graph, at: &Anchoring, x: usize) -> Search {
+    let up = followers(at, &at.with(graph, x));
+    let hit = candidates(graph, at, x);
+    let marks = (0..graph.size()).map(|v| if up[v] { 2 } else { hit[v] as u8 }).collect();
+    Search { marks, followers: count(&up), candidates: count(&hit) }
+}
+
+fn follower_count(graph: &Graph, at: &Anchoring, x: usize) -> u16 {
+    if at.anchored[x] {
         ANCHORED
     } else {
-        followers(graph, anchored, x).iter().filter(|&&b| b).count() as u16
+        count(&followers(at, &at.with(graph, x))) as u16
     }
 }
 
@@ -226,28 +251,26 @@ fn component_of(s: &Sheet, v: usize) -> BTreeSet<usize> {
 }
 
 /// Partners who are anchored or of higher level.
-fn above(graph: &Graph, anchored: &[bool], s: &Sheet, v: usize) -> usize {
-    graph.neighbors[v].iter().filter(|&&u| anchored[u] || s.level[u] > s.level[v]).count()
+fn above(graph: &Graph, at: &Anchoring, v: usize) -> usize {
+    graph.neighbors[v].iter().filter(|&&u| at.anchored[u] || at.sheet.level[u] > at.sheet.level[v]).count()
 }
 
 /// The rows recomputed by the step from `a` to `b`.
-pub fn recomputed(graph: &Graph, a: &[bool], b: &[bool]) -> Vec<bool> {
+fn recomputed(graph: &Graph, a: &Anchoring, b: &Anchoring) -> Vec<bool> {
     let n = graph.size();
-    let (before, after) = (sheet(graph, a), sheet(graph, b));
     let undisturbed = |v: usize| {
-        !a[v]
-            && !b[v]
-            && before.level[v] == after.level[v]
-            && component_of(&before, v) == component_of(&after, v)
-            && component_of(&before, v).iter().all(|&w| above(graph, a, &before, w) == above(graph, b, &after, w))
+        !a.anchored[v]
+            && !b.anchored[v]
+            && a.sheet.level[v] == b.sheet.level[v]
+            && component_of(&a.sheet, v) == component_of(&b.sheet, v)
+            && component_of(&a.sheet, v).iter().all(|&w| above(graph, a, w) == above(graph, b, w))
     };
     let calm: Vec<bool> = (0..n).map(undisturbed).collect();
-    let looks = |anchored: &[bool], s: &Sheet, u: usize| {
-        graph.neighbors[u].iter().any(|&v| {
-            !anchored[v] && (s.level[v], s.layer[v]) > (s.level[u], s.layer[u]) && !calm[v]
-        })
+    let looks = |at: &Anchoring, u: usize| {
+        let pair = |v: usize| (at.sheet.level[v], at.sheet.layer[v]);
+        graph.neighbors[u].iter().any(|&v| !at.anchored[v] && pair(v) > pair(u) && !calm[v])
     };
-    (0..n).map(|u| !b[u] && (looks(a, &before, u) || looks(b, &after, u))).collect()
+    (0..n).map(|u| !b.anchored[u] && (looks(a, u) || looks(b, u))).collect()
 }
 
 /// The record of a session, and the three numbers of each request.
@@ -265,34 +288,33 @@ pub struct Record {
 /// The plain session, everything fresh.
 pub fn session(graph: &Graph, start: &[bool], requests: &[u16]) -> Record {
     let n = graph.size();
-    let mut set = start.to_vec();
+    let mut at = Anchoring::new(graph, start);
     let mut stamps = vec![0u16; n];
     let (mut status, mut up, mut again) = (vec![], vec![], vec![]);
     for (i, &request) in requests.iter().enumerate() {
         let x = request as usize;
-        if x >= n || set[x] {
+        if x >= n || at.anchored[x] {
             status.push(if x >= n { 15 } else { 16 });
             up.push(0);
             again.push(0);
             continue;
         }
-        let mut next = set.clone();
-        next[x] = true;
-        let rows = recomputed(graph, &set, &next);
+        let next = at.with(graph, x);
+        let rows = recomputed(graph, &at, &next);
         status.push(0);
-        up.push(followers(graph, &set, x).iter().filter(|&&b| b).count() as u16);
-        again.push(rows.iter().filter(|&&b| b).count() as u16);
+        up.push(count(&followers(&at, &next)) as u16);
+        again.push(count(&rows) as u16);
         for v in 0..n {
             if v == x || rows[v] {
                 stamps[v] = i as u16 + 1;
             }
         }
-        set = next;
+        at = next;
     }
     Record {
-        anchored: set.iter().map(|&b| b as u8).collect(),
-        sheet: sheet(graph, &set),
-        follower_counts: (0..n).map(|v| follower_count(graph, &set, v)).collect(),
+        anchored: at.anchored.iter().map(|&b| b as u8).collect(),
+        follower_counts: (0..n).map(|v| follower_count(graph, &at, v)).collect(),
+        sheet: at.sheet,
         stamps,
         status,
         followers: up,
@@ -301,10 +323,11 @@ pub fn session(graph: &Graph, start: &[bool], requests: &[u16]) -> Record {
 }
 
 /// The vertex a round anchors, if anyone is left.
-pub fn choice(graph: &Graph, anchored: &[bool]) -> Option<usize> {
-    let free: Vec<usize> = (0..graph.size()).filter(|&v| !anchored[v]).collect();
-    let best = free.iter().map(|&v| follower_count(graph, anchored, v)).max()?;
-    free.into_iter().find(|&v| follower_count(graph, anchored, v) == best)
+fn choice(graph: &Graph, at: &Anchoring) -> Option<usize> {
+    let free: Vec<usize> = (0..graph.size()).filter(|&v| !at.anchored[v]).collect();
+    let counts: Vec<u16> = free.iter().map(|&v| follower_count(graph, at, v)).collect();
+    let best = counts.iter().max()?;
+    counts.iter().position(|count| count == best).map(|i| free[i])
 }
 
 /// One line of the answer sheet.
@@ -315,18 +338,15 @@ fn line(round: usize, chosen: Option<usize>, up: &[bool], rows: usize) -> String
 }
 
 /// The lines of the answer sheet.
-pub fn rounds(graph: &Graph, start: &[bool], count: usize) -> Vec<u8> {
-    let mut set = start.to_vec();
+pub fn rounds(graph: &Graph, start: &[bool], number: usize) -> Vec<u8> {
+    let mut at = Anchoring::new(graph, start);
     let mut out = String::new();
-    for r in 1..=count {
-        match choice(graph, &set) {
+    for r in 1..=number {
+        match choice(graph, &at) {
             Some(x) => {
-                let up = followers(graph, &set, x);
-                let mut next = set.clone();
-                next[x] = true;
-                let rows = recomputed(graph, &set, &next).iter().filter(|&&b| b).count();
-                out.push_str(&line(r, Some(x), &up, rows));
-                set = next;
+                let next = at.with(graph, x);
+                out.push_str(&line(r, Some(x), &followers(&at, &next), count(&recomputed(graph, &at, &next))));
+                at = next;
             }
             None => out.push_str(&line(r, None, &vec![false; graph.size()], 0)),
         }

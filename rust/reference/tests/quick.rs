@@ -6,7 +6,12 @@ use reference::quick;
 fn compare(pool: &Pool, requests: &[u16], rounds: usize) {
     let (graph, set) = reference::admit(&pool.starts, &pool.links, &pool.anchored).unwrap();
     let plain = quick::Pool { starts: &pool.starts, links: &pool.links };
-    assert_eq!(quick::sheet(plain, &set), reference::sheet(&graph, &set), "{pool:?}");
+    let at = reference::Anchoring::new(&graph, &set);
+    let sheet = quick::sheet(plain, &set);
+    assert_eq!(sheet, at.sheet, "{pool:?}");
+    for x in (0..pool.size()).filter(|&x| !set[x]) {
+        assert_eq!(quick::search(plain, &set, &sheet, x), reference::search(&graph, &at, x), "{pool:?} {x}");
+    }
     assert_eq!(quick::session(plain, &set, requests), reference::session(&graph, &set, requests), "{pool:?} {requests:?}");
     assert_eq!(quick::rounds(plain, &set, rounds), reference::rounds(&graph, &set, rounds), "{pool:?}");
 }

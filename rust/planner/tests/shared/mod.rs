@@ -3,6 +3,8 @@
 
 use planner::{Input, Refusal};
 use pools::Pool;
+use reference::quick;
+use std::collections::BTreeSet;
 
 pub fn input(pool: &Pool) -> Input<'_> {
     Input { starts: &pool.starts, links: &pool.links, anchored: &pool.anchored }
@@ -15,6 +17,31 @@ pub fn refusal((number, place): reference::Refusal) -> Refusal {
 /// A slice's contents that no answer gives by chance.
 pub fn held(len: usize, salt: u16) -> Vec<u16> {
     (0..len).map(|i| 40000 + salt * 1100 + i as u16).collect()
+}
+
+/// Every graph of up to `most` vertices with every anchor set, none twice. On n vertices there are 2^(n(n-1)/2) graphs, each with 2^n
+/// anchor sets: 1, 2, 8, 64, 1,024 and 32,768 pools for n from 0 to 5.
+pub fn small_pools(most: usize) -> BTreeSet<Pool> {
+    let pools: BTreeSet<Pool> = (0..=most).flat_map(Pool::all).collect();
+    assert_eq!(pools.len(), (0..=most).map(|n| 1 << (n * (n + 1) / 2)).sum());
+    pools
+}
+
+/// The refusals that damaged pools of few vertices meet.
+pub const DAMAGES: [u64; 8] = [1, 4, 5, 6, 7, 8, 9, 10];
+
+/// The lengths next to the right one.
+pub fn wrong_lengths(right: usize) -> impl Iterator<Item = usize> {
+    right.checked_sub(1).into_iter().chain([right + 1])
+}
+
+pub fn plain(pool: &Pool) -> quick::Pool<'_> {
+    quick::Pool { starts: &pool.starts, links: &pool.links }
+}
+
+/// The anchor set that sound bytes give.
+pub fn anchor_set(pool: &Pool) -> Vec<bool> {
+    pool.anchored.iter().map(|&byte| byte == 1).collect()
 }
 
 /// Pools that break a rule of the table or of the bytes, each with its refusal.
