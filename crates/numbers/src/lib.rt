@@ -1,6 +1,6 @@
 // The numbers of an answer, as Rust and C get them.
 ghost use mathlib.Core.Path.{_≡_};
-ghost use Rattle.numbers.specs.Numbers.{checkedAs, listedAs, searchedAs, answeredAs};
+ghost use Rattle.numbers.specs.Numbers.{numbers, checkedAs, listedAs, searchedAs, answeredAs};
 
 // 0 and the values of an accepted call, or a refusal's number and place.
 #[repr(C)]
@@ -10,22 +10,34 @@ pub struct Answer {
     pub second: u64,
 }
 
+// An accepted call: 0 and its values.
+fn accepted(first: usize, second: usize) -> Answer
+    ensures { λ r. ⌜ r ≡ numbers 0 first second ⌝ }
+{
+    Answer {
+        number: 0,
+        first: first as u64,
+        second: second as u64,
+    }
+}
+
+// A refused call: the number and the place.
+fn refused(refusal: table::Refusal) -> Answer
+    ensures { λ r. ⌜ r ≡ numbers (refusal .number) (refusal .place) 0 ⌝ }
+{
+    Answer {
+        number: refusal.number as u64,
+        first: refusal.place as u64,
+        second: 0,
+    }
+}
+
 pub fn of_checked(checked: table::Checked) -> Answer
     ensures { λ r. ⌜ r ≡ checkedAs checked ⌝ }
 {
     match checked {
-        table::Checked::Sound => Answer {
-            number: 0,
-            first: 0,
-            second: 0,
-        },
-        table::Checked::Refused(refusal) => {
-            Answer {
-                number: refusal.number as u64,
-                first: refusal.place as u64,
-                second: 0,
-            }
-        }
+        table::Checked::Sound => accepted(0, 0),
+        table::Checked::Refused(refusal) => refused(refusal),
     }
 }
 
@@ -33,16 +45,8 @@ pub fn of_listed(listed: components::Listed) -> Answer
     ensures { λ r. ⌜ r ≡ listedAs listed ⌝ }
 {
     match listed {
-        components::Listed::Count(count) => Answer {
-            number: 0,
-            first: count as u64,
-            second: 0,
-        },
-        components::Listed::Refused(refusal) => Answer {
-            number: refusal.number as u64,
-            first: refusal.place as u64,
-            second: 0,
-        },
+        components::Listed::Count(count) => accepted(count, 0),
+        components::Listed::Refused(refusal) => refused(refusal),
     }
 }
 
@@ -50,20 +54,8 @@ pub fn of_searched(searched: search::Searched) -> Answer
     ensures { λ r. ⌜ r ≡ searchedAs searched ⌝ }
 {
     match searched {
-        search::Searched::Found(lifted, reached) => {
-            Answer {
-                number: 0,
-                first: lifted as u64,
-                second: reached as u64,
-            }
-        }
-        search::Searched::Refused(refusal) => {
-            Answer {
-                number: refusal.number as u64,
-                first: refusal.place as u64,
-                second: 0,
-            }
-        }
+        search::Searched::Found(lifted, reached) => accepted(lifted, reached),
+        search::Searched::Refused(refusal) => refused(refusal),
     }
 }
 

@@ -1,4 +1,4 @@
-use mathlib.Core.Path.{sym, ap}
+use mathlib.Core.Path.{sym, ap, _∙_}
 use Rattle.numbers.specs.Numbers.{checkedAs}
 use borrow.Author.Needs.{needs}
 use Rattle.numbers.proofs.of_checked.Statement.{statement}
@@ -7,17 +7,22 @@ use Rattle.numbers.proofs.of_checked.Tie as tie
 enum-told : tie.Need-enum-told
 enum-told c = search needs
 
+accepted-requires : tie.Need-accepted-requires
+accepted-requires c κs = search needs
+
 enum-known-checked : tie.Need-enum-known-checked
 enum-known-checked c = search needs
 
-cast-t4 : tie.Need-cast-t4
-cast-t4 c = search needs
+refused-requires : tie.Need-refused-requires
+refused-requires c κs = search needs
 
 returns : tie.Need-returns
-returns c = sym (ap checkedAs (c .enum-told .given .1))
+returns c = c .accepted .ensures ∙ sym (ap checkedAs (c .before .enum-told .given .1))
 
 returns-2 : tie.Need-returns-2
-returns-2 c = sym (ap checkedAs (c .before .before .checked .given .1))
+returns-2 c = c .refused .ensures ∙ sym (ap checkedAs (c .before .before .checked .given .1))
 
 pub of-checked-spec : {M : Type 1} → statement M
-of-checked-spec = tie.close (tie.spec enum-told enum-known-checked cast-t4 returns returns-2)
+of-checked-spec =
+    tie.close
+    (tie.spec enum-told accepted-requires enum-known-checked refused-requires returns returns-2)
