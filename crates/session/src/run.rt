@@ -106,10 +106,10 @@ fn admit(
             if !level::lent::are_of(n, components, followers, stamps) {
                 return table::refused(12, 0);
             }
-            if !level::lent::are_of(count, status, lifted, redone) {
-                return table::refused(12, 0);
+            if level::lent::are_of(count, status, lifted, redone) {
+                return table::Checked::Sound;
             }
-            table::Checked::Sound
+            table::refused(12, 0)
         }
     }
 }

@@ -61,25 +61,25 @@ returns-3 c =
 are-of-requires-3 : tie.Need-are-of-requires-3
 are-of-requires-3 c κs = search needs
 
-refused-requires-4 : tie.Need-refused-requires-4
-refused-requires-4 c κs = search needs
-
 returns-4 : tie.Need-returns-4
 returns-4 c =
-    let first = sym (c .before .before .before .before .before .before .are-of .ensures) ∙ not-false (c .before .before .before .before .before .before .are-of .result) (c .before .before .before .before .before .if2 .left) in
-    let second = sym (c .before .before .before .before .are-of2 .ensures) ∙ not-false (c .before .before .before .before .are-of2 .result) (c .before .before .before .if3 .left) in
-    let third = sym (c .before .before .are-of3 .ensures) ∙ not-true (c .before .before .are-of3 .result) (c .before .if4 .taken) in
-    c .refused4 .ensures ∙ sym (run-lent _ _ _ _ _ (sound (c .before .before .before .before .before .before .before .before)) false (c .before .before .before .before .before .before .before .if1 .left) (rw (first, second, third)))
+    let first = sym (c .before .before .before .before .before .are-of .ensures) ∙ not-false (c .before .before .before .before .before .are-of .result) (c .before .before .before .before .if2 .left) in
+    let second = sym (c .before .before .before .are-of2 .ensures) ∙ not-false (c .before .before .before .are-of2 .result) (c .before .before .if3 .left) in
+    let third = sym (c .before .are-of3 .ensures) ∙ c .if4 .taken in
+    sym (run-lent _ _ _ _ _ (sound (c .before .before .before .before .before .before .before)) true (c .before .before .before .before .before .before .if1 .left) (rw (first, second, third)))
+
+refused-requires-4 : tie.Need-refused-requires-4
+refused-requires-4 c κs = search needs
 
 returns-5 : tie.Need-returns-5
 returns-5 c = sym (run-refused _ _ _ _ _ (sym (c .before .before .before .admit .ensures) ∙ c .before .admitted .given .1))
 
 returns-6 : tie.Need-returns-6
 returns-6 c =
-    let first = sym (c .before .before .before .before .before .are-of .ensures) ∙ not-false (c .before .before .before .before .before .are-of .result) (c .before .before .before .before .if2 .left) in
-    let second = sym (c .before .before .before .are-of2 .ensures) ∙ not-false (c .before .before .before .are-of2 .result) (c .before .before .if3 .left) in
-    let third = sym (c .before .are-of3 .ensures) ∙ not-false (c .before .are-of3 .result) (c .if4 .left) in
-    sym (run-lent _ _ _ _ _ (sound (c .before .before .before .before .before .before .before)) true (c .before .before .before .before .before .before .if1 .left) (rw (first, second, third)))
+    let first = sym (c .before .before .before .before .before .before .are-of .ensures) ∙ not-false (c .before .before .before .before .before .before .are-of .result) (c .before .before .before .before .before .if2 .left) in
+    let second = sym (c .before .before .before .before .are-of2 .ensures) ∙ not-false (c .before .before .before .before .are-of2 .result) (c .before .before .before .if3 .left) in
+    let third = sym (c .before .before .are-of3 .ensures) ∙ c .before .if4 .left in
+    c .refused4 .ensures ∙ sym (run-lent _ _ _ _ _ (sound (c .before .before .before .before .before .before .before .before)) false (c .before .before .before .before .before .before .before .if1 .left) (rw (first, second, third)))
 
 pub admit-spec : {M : Type 1} → statement M
 admit-spec =
@@ -98,7 +98,7 @@ admit-spec =
     refused-requires-3
     returns-3
     are-of-requires-3
-    refused-requires-4
     returns-4
+    refused-requires-4
     returns-5
     returns-6)
