@@ -128,7 +128,7 @@ module _ (s l given requests : List ℕ) (accepted : admitOf s l given ≡ Sound
     unfolding followerCount
     count-free v b t = tabulate-at (followerCount G A) n v b ∙ rw (set-is, false-of (A v) (subst (λ B. T (not (B v))) set-is t))
 
-    pub fresh-at : Fresh s l given requests i
+    fresh-at : Fresh s l given requests i
     fresh-at = record {
       admitted = bytes-admitted;
       levels = ap (λ B. tabulate (level G B) n) (sym set-is);
@@ -150,8 +150,9 @@ module _ (s l given requests : List ℕ) (accepted : admitOf s l given ≡ Sound
     abbrev x : ℕ
     x = getD requests i 0
 
-    abbrev B : ℕ → Bool
-    B = P i .anchors
+    -- who is anchored just before it
+    abbrev before : ℕ → Bool
+    before = P i .anchors
 
     shown-row : shown-at i ≡ rowAt s l given requests i
     shown-row = rw (
@@ -167,35 +168,35 @@ module _ (s l given requests : List ℕ) (accepted : admitOf s l given ≡ Sound
     turn-at : P (i + 1) ≡ turn G (i + 1) x (P i)
     turn-at = prefix (i + 1) (omega arith) ∙ after-more G (anchoredBy given) requests i ∙ ap (turn G (i + 1) x) (sym (prefix i (omega arith)))
 
-    row-status : rowOf G (P i) x .status ≡ statusOf G B x
-    row-status = split (eqb (statusOf G B x) 0)
-        (λ t. let e = eqb→eq (statusOf G B x) 0 t in ap (λ r. r .status) (row-accepted G (P i) x e) ∙ sym e)
-        (λ t. ap (λ r. r .status) (row-refused G (P i) x (neqb (statusOf G B x) 0 t)))
+    row-status : rowOf G (P i) x .status ≡ statusOf G before x
+    row-status = split (eqb (statusOf G before x) 0)
+        (λ t. let e = eqb→eq (statusOf G before x) 0 t in ap (λ r. r .status) (row-accepted G (P i) x e) ∙ sym e)
+        (λ t. ap (λ r. r .status) (row-refused G (P i) x (neqb (statusOf G before x) 0 t)))
 
-    shown-status : shown-at i .status ≡ statusOf G B x
+    shown-status : shown-at i .status ≡ statusOf G before x
     shown-status = ap (λ r. r .status) row-at ∙ row-status
 
-    module _ (free : statusOf G B x ≡ 0) where
+    module _ (free : statusOf G before x ≡ 0) where
       vertex : x < n
-      vertex = status-free G B x .0 free .0
+      vertex = status-free G before x .0 free .0
 
       unanchored : T (not (set-at i x))
-      unanchored = subst (λ C. T (not (C x))) (sym (set-is i)) (status-free G B x .0 free .1)
+      unanchored = subst (λ C. T (not (C x))) (sym (set-is i)) (status-free G before x .0 free .1)
 
-      turned : P (i + 1) ≡ record { anchors = adding B x; stamps = λ v. cond (eqb x v || recomputed G B (adding B x) v) (i + 1) (P i .stamps v) }
+      turned : P (i + 1) ≡ record { anchors = adding before x; stamps = λ v. cond (eqb x v || recomputed G before (adding before x) v) (i + 1) (P i .stamps v) }
       turned = turn-at ∙ turn-accepted G (P i) x (i + 1) free
 
       -- the anchors after, said of the session and of the record
-      next-anchors : P (i + 1) .anchors ≡ adding B x
+      next-anchors : P (i + 1) .anchors ≡ adding before x
       next-anchors = ap (λ S. S .anchors) turned
 
-      next-set : set-at (i + 1) ≡ adding B x
+      next-set : set-at (i + 1) ≡ adding before x
       next-set = set-is (i + 1) ∙ next-anchors
 
-      redone-is : redone-at i ≡ recomputed G B (adding B x)
+      redone-is : redone-at i ≡ recomputed G before (adding before x)
       redone-is = ap₂ (recomputed G) (set-is i) next-set
 
-      row : shown-at i ≡ record { status = 0; lifted = followers G B x; redone = count (recomputed G B (adding B x)) (below n) }
+      row : shown-at i ≡ record { status = 0; lifted = followers G before x; redone = count (recomputed G before (adding before x)) (below n) }
       row = row-at ∙ row-accepted G (P i) x free
 
       lifted-is : shown-at i .lifted ≡ followers G (set-at i) x
@@ -209,21 +210,21 @@ module _ (s l given requests : List ℕ) (accepted : admitOf s l given ≡ Sound
       level-at v b other =
           tabulate-at (level G (P (i + 1) .anchors)) n v b
           ∙ ap (λ C. level G C v) next-anchors
-          ∙ level-lifted G L B x v b other
-          ∙ ap₂ (λ k j. k + bit (eqb j 2)) (sym (tabulate-at (level G B) n v b)) (sym (mark-at v b ∙ ap (λ C. mark G C x v) (set-is i)))
+          ∙ level-lifted G L before x v b other
+          ∙ ap₂ (λ k j. k + bit (eqb j 2)) (sym (tabulate-at (level G before) n v b)) (sym (mark-at v b ∙ ap (λ C. mark G C x v) (set-is i)))
 
       stamp-at : (v : ℕ) → v < n → getD (record-at (i + 1) .stamps) v 0 ≡ cond (eqb x v || redone-at i v) (i + 1) (getD (record-at i .stamps) v 0)
       stamp-at v b = rw redone-is (
           tabulate-at (P (i + 1) .stamps) n v b
           ∙ ap (λ S. S .stamps v) turned
-          ∙ ap (cond (eqb x v || recomputed G B (adding B x) v) (i + 1)) (sym (tabulate-at (P i .stamps) n v b)))
+          ∙ ap (cond (eqb x v || recomputed G before (adding before x) v) (i + 1)) (sym (tabulate-at (P i .stamps) n v b)))
 
       -- an anchored vertex other than x reads 65,535 before and after; any other row is kept where it is not recomputed
-      same-count : (v : ℕ) → v < n → T (not (eqb x v)) → T (not (recomputed G B (adding B x) v)) → followerCount G (adding B x) v ≡ followerCount G B v
+      same-count : (v : ℕ) → v < n → T (not (eqb x v)) → T (not (recomputed G before (adding before x) v)) → followerCount G (adding before x) v ≡ followerCount G before v
       unfolding followerCount
-      same-count v b other r = split (B v)
-          (λ a. rw (true-of (B v) a))
-          (λ a. let t = free-adding B x v a (neqb x v other) in rw (false-of (adding B x v) t, false-of (B v) a) (sym (kept-followers G L B x v b t r)))
+      same-count v b other r = split (before v)
+          (λ a. rw (true-of (before v) a))
+          (λ a. let t = free-adding before x v a (neqb x v other) in rw (false-of (adding before x v) t, false-of (before v) a) (sym (kept-followers G L before x v b t r)))
 
       count-at : (v : ℕ) → v < n → T (not (eqb x v || redone-at i v)) → getD (record-at (i + 1) .followers) v 0 ≡ getD (record-at i .followers) v 0
       count-at v b t =
@@ -233,11 +234,11 @@ module _ (s l given requests : List ℕ) (accepted : admitOf s l given ≡ Sound
           tabulate-at (followerCount G (P (i + 1) .anchors)) n v b
           ∙ ap (λ C. followerCount G C v) next-anchors
           ∙ same-count v b other (subst (λ f. T (not (f v))) redone-is r)
-          ∙ sym (tabulate-at (followerCount G B) n v b)
+          ∙ sym (tabulate-at (followerCount G before) n v b)
 
       x-not-redone : T (not (redone-at i x))
       unfolding recomputed
-      x-not-redone = subst (λ f. T (not (f x))) (sym redone-is) (rw (true-of (adding B x x) (or-r (B x) (eqb x x) (eqb-refl x))) tt)
+      x-not-redone = subst (λ f. T (not (f x))) (sym redone-is) (rw (true-of (adding before x x) (or-r (before x) (eqb x x) (eqb-refl x))) tt)
 
       accepted-at : Accepts s l given requests i x
       accepted-at = record {
@@ -253,11 +254,11 @@ module _ (s l given requests : List ℕ) (accepted : admitOf s l given ≡ Sound
         kept-stamps = λ v b t. stamp-at v b ∙ rw (false-of (eqb x v || redone-at i v) t);
       }
 
-    module _ (refusal : statusOf G B x ≡ 0 → ⊥) where
+    module _ (refusal : statusOf G before x ≡ 0 → ⊥) where
       same : P (i + 1) ≡ P i
       same = turn-at ∙ turn-refused G (P i) x (i + 1) refusal
 
-      refused-row : shown-at i ≡ record { status = statusOf G B x; lifted = 0; redone = 0 }
+      refused-row : shown-at i ≡ record { status = statusOf G before x; lifted = 0; redone = 0 }
       refused-row = row-at ∙ row-refused G (P i) x refusal
 
       refused-at : Refuses s l given requests i
@@ -291,7 +292,7 @@ module _ (s l given requests : List ℕ) (accepted : admitOf s l given ≡ Sound
         let long = length-take-le i requests h in
         run-lent s l given (length (take i requests)) _ accepted true (omega arith) (rw long (true-of (sized n i lent) fits))
 
-    pub claimed : Claim s l given requests
+    claimed : Claim s l given requests
     claimed = record {
       calls = prefix-run;
       end = ap (ended s l given) (take-length requests);
