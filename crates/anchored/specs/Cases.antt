@@ -6,11 +6,12 @@ use Prim.Native.Nat.{ℕ}
 use lib.ListN.{length, getD}
 use Rattle.finite.specs.Count.{bit, tabulate, below, count}
 use Rattle.finite.specs.Search.{any, all, member, firstFrom, first, largest}
+use Rattle.finite.specs.Falling.{select, falling}
 use Rattle.finite.specs.Sets.{keep, having, rounds, grow}
 use Rattle.finite.specs.Pairs.{pairLe}
 use Rattle.anchored.specs.Graph.{Graph}
 use Rattle.anchored.specs.Core.{batch, core, level, shell, layer, greater, higher}
-use Rattle.anchored.specs.Component.{joins, around, component, together, heads, componentSize}
+use Rattle.anchored.specs.Component.{joins, around, component, together, heads, componentSize, ranked}
 use Rattle.anchored.specs.Followers.{follows, followers, followerCount, firstStep, onward, candidates, reached, mark, best, choice}
 use Rattle.anchored.specs.Sheet.{isDefined, misplaced, tooHigh, tooLow, tooLate, fits, isLocal}
 use Rattle.anchored.specs.Step.{above, undisturbed, seesDisturbed, seesNew, recomputed}
@@ -112,7 +113,10 @@ pub cases :
     -- an anchor parts vertices of one level; two levels are two components, each with one number and its size
     × (rows star (among (0 ∷ [])) ≡ (65535 ∷ 1 ∷ 1 ∷ 1 ∷ []) ∷ (0 ∷ 1 ∷ 1 ∷ 1 ∷ []) ∷ (65535 ∷ 1 ∷ 2 ∷ 3 ∷ []) ∷ (65535 ∷ 0 ∷ 0 ∷ 0 ∷ []) ∷ [])
     × (tabulate (λ v. bit (heads kite (among []) v)) 4 ∷ tabulate (componentSize kite (among [])) 4 ∷ [] ≡ (1 ∷ 0 ∷ 0 ∷ 1 ∷ []) ∷ (3 ∷ 3 ∷ 3 ∷ 1 ∷ []) ∷ [])
+    -- the component list: two levels; equal levels; a higher number first because of its level; all anchored; no vertices
+    × (ranked kite (among []) ∷ ranked star (among (0 ∷ [])) ∷ ranked (graph ([] ∷ (2 ∷ []) ∷ (1 ∷ []) ∷ [] ∷ [])) (among []) ∷ ranked chain (among (0 ∷ 1 ∷ 2 ∷ 3 ∷ [])) ∷ ranked (graph []) (among []) ∷ []
+    ≡ (0 ∷ 3 ∷ []) ∷ (1 ∷ 2 ∷ 3 ∷ []) ∷ (1 ∷ 0 ∷ 3 ∷ []) ∷ [] ∷ [] ∷ [])
     -- the choice of a round: the greatest count, the lowest of equals, also at 0; the size if all are anchored
     × (choice chain (among (0 ∷ [])) ∷ choice star (among (1 ∷ [])) ∷ choice chain (among []) ∷ choice single (among (0 ∷ [])) ∷ [] ≡ 3 ∷ 2 ∷ 0 ∷ 1 ∷ [])
-unfolding tabulate below count any all firstFrom first largest keep having rounds grow pairLe batch core level shell layer greater higher joins around component together heads componentSize follows followers followerCount firstStep onward candidates reached mark best choice isDefined misplaced tooHigh tooLow tooLate fits isLocal above undisturbed seesDisturbed seesNew recomputed statusOf rowOf turn after
-cases = (refl, refl, refl, refl, refl, refl, refl, refl, refl, refl, refl, refl, refl, refl, refl, refl, refl, refl, refl, refl, refl, refl, refl, refl, refl, refl, refl, refl, refl, refl, refl, refl, refl, refl, refl)
+unfolding tabulate below count any all firstFrom first largest select falling keep having rounds grow pairLe batch core level shell layer greater higher joins around component together heads componentSize ranked follows followers followerCount firstStep onward candidates reached mark best choice isDefined misplaced tooHigh tooLow tooLate fits isLocal above undisturbed seesDisturbed seesNew recomputed statusOf rowOf turn after
+cases = (refl, refl, refl, refl, refl, refl, refl, refl, refl, refl, refl, refl, refl, refl, refl, refl, refl, refl, refl, refl, refl, refl, refl, refl, refl, refl, refl, refl, refl, refl, refl, refl, refl, refl, refl, refl)

@@ -6,6 +6,7 @@ use Prim.Native.Nat.{ℕ, _<_}
 use lib.Dec.{T, eqb}
 use Rattle.finite.specs.Count.{In, count, below}
 use Rattle.finite.specs.Search.{any, first}
+use Rattle.finite.specs.Falling.{falling}
 use Rattle.finite.specs.Sets.{has, having, rounds, grow}
 use Rattle.anchored.specs.Graph.{Graph}
 use Rattle.anchored.specs.Core.{level}
@@ -32,9 +33,13 @@ module _ (G : Graph) (A : ℕ → Bool) where
   unfoldable pub together : ℕ → ℕ → Bool
   together v w = not (A w) && eqb (component v) (component w)
 
-  -- the component list has one entry for each vertex that is its component's number
+  -- v is its component's number
   unfoldable pub heads : ℕ → Bool
   heads v = eqb (component v) v
 
   unfoldable pub componentSize : ℕ → ℕ
   componentSize v = count (together v) (below (G .size))
+
+  -- the component list (patch list) in document 02's order: by falling level, then by rising number. Every level is below the size
+  unfoldable pub ranked : List ℕ
+  ranked = falling (level G A) heads (G .size) (G .size)

@@ -1,25 +1,25 @@
--- Counting the members of components and listing components, a vertex at a time, and what the list says of the definitions. Assumes nothing.
-use mathlib.Core.Path.{_≡_, refl, sym, ap, _∙_, subst}
-use mathlib.Core.Logic.{⊎-elim}
-use mathlib.Core.Bool.{Bool, true, false, not, _&&_, and-false}
-use mathlib.Core.List.{List, [], _∷_}
-use Prim.Native.Nat.{ℕ, suc, _+_, _≤_, _<_}
-use native.Mathlib.Nat.{eq-or-lt-of-le}
+-- Counting the members of components, values beside the numbers, and what the list says of the definitions. Assumes nothing.
+use mathlib.Core.Path.{_≡_, sym, ap, _∙_, subst}
+use mathlib.Core.Bool.{Bool, not, _&&_}
+use mathlib.Core.List.{List, [], _∷_, _++_, map, map-append}
+use Prim.Native.Nat.{ℕ, _+_, _≤_, _<_}
 use native.Mathlib.Numerals.{add-one}
 use native.Mathlib.Omega.{arith}
-use lib.ListN.{length, take, drop, getD, set, length-set}
-use lib.Seq.{getD-set-same, getD-set-other, getD-take, length-take-le, take-suc-set, drop-set-lt, drop-drop}
-use lib.Dec.{T, ltb, eqb, leb→le, le→leb, not-T, eqb→eq, eqb-refl}
-use borrow.Author.Tests.{le-ltb}
-use Rattle.finite.specs.Count.{bit, count, below, In}
-use Rattle.finite.proofs.Tests.{and-i, and-l, and-r, split, same, true-of, false-of, of-true, eqb-of, neqb}
-use Rattle.finite.proofs.Count.{bit-yes, bit-no, in-at, in-below, length-below, count-length, count-append, count-start, count-below-zero, count-below-more, count-some, count-cong}
-use Rattle.anchored.specs.Graph.{Graph}
+use lib.ListN.{length, take, drop, getD, set, length-map, List·getD-append}
+use lib.Seq.{take-suc, take-append-seam, length-take-le, getD-set-same, getD-set-other}
+use lib.Dec.{T, eqb, not-T, eqb→eq, eqb-refl}
+use Rattle.finite.specs.Count.{count, below}
+use Rattle.finite.proofs.Tests.{and-i, and-r, split, same, true-of, eqb-of, neqb}
+use Rattle.finite.proofs.Count.{bit-yes, bit-no, in-at, in-below, length-below, map-cong, store-more, count-length, count-below-more, count-cong}
+use Rattle.finite.proofs.Falling.{in-falling, falling-cong}
+use Rattle.anchored.specs.Graph.{Graph, Simple}
 use Rattle.anchored.specs.Core.{level}
-use Rattle.anchored.specs.Component.{component, together, heads, componentSize}
+use Rattle.anchored.specs.Component.{component, together, heads, componentSize, ranked}
+use Rattle.anchored.proofs.Core.{level-lt}
+use Rattle.anchored.proofs.Ranked.{ranked-in, ranked-length}
 use Rattle.shells.specs.Arrays.{Holds}
-use Rattle.components.specs.Answers.{Lists, Keeps}
-use Rattle.components.specs.Entries.{numbered, members, Entries}
+use Rattle.components.specs.Answers.{front}
+use Rattle.components.specs.Entries.{numbered, members, rankedIn, Low, Placed}
 
 -- ---- counting members
 
@@ -50,105 +50,47 @@ module _ (numbers sizes : List ℕ) (n v : ℕ) (holds : Holds sizes n (members 
       let other = not-T (eqb number c) (λ t. absurd (omega (arith, eqb→eq number c t))) in
       omega (arith, holds c below-n, count-below-more (has-number c) v, bit-no (eqb number c) other)
 
--- ---- the entries of the list
+-- ---- values beside the numbers
 
-count-single : (p : ℕ → Bool) (w : ℕ) → count p (w ∷ []) ≡ bit (p w)
-unfolding count
-count-single p w = omega arith
+module _ (f : ℕ → ℕ) (numbers : List ℕ) where
+  pub gather-more : (old new : List ℕ) (i : ℕ) → i < length numbers → i < length old → new ≡ map f (take i numbers) ++ drop i old
+      → set new i (f (getD numbers i 0)) ≡ map f (take (i + 1) numbers) ++ drop (i + 1) old
+  gather-more old new i h b e =
+      let long : length (map f (take i numbers)) ≡ i = length-map (take i numbers) f ∙ length-take-le i numbers (omega arith) in
+      let one : take (i + 1) numbers ≡ take i numbers ++ getD numbers i 0 ∷ [] = rw add-one (take-suc numbers i 0 h) in
+      let more : map f (take (i + 1) numbers) ≡ map f (take i numbers) ++ f (getD numbers i 0) ∷ [] = ap (map f) one ∙ map-append f (take i numbers) (getD numbers i 0 ∷ []) in
+      store-more (map f (take i numbers)) old new i (f (getD numbers i 0)) long e b ∙ ap (λ l. l ++ drop (i + 1) old) (sym more)
 
-keeps-all : (xs : List ℕ) → Keeps 0 xs xs
-keeps-all xs = record { rest = refl; long = refl }
+  pub gather-all : (old : List ℕ) (c : ℕ) → c ≤ length numbers → map f (take c numbers) ++ drop c old ≡ front (map f (take c numbers)) old
+  gather-all old c h = ap (λ i. map f (take c numbers) ++ drop i old) (sym (length-map (take c numbers) f ∙ length-take-le c numbers h))
 
-keeps-more : (c x : ℕ) (old new : List ℕ) → Keeps c old new → Keeps (c + 1) old (set new c x)
-keeps-more c x old new k = record {
-  rest = drop-set-lt (c + 1) new c x (omega arith) ∙ sym (drop-drop 1 c new) ∙ ap (drop 1) (k .rest) ∙ drop-drop 1 c old;
-  long = simp length-set (k .long);
-}
+module _ (level component : List ℕ) (n : ℕ) where
+  abbrev listed : List ℕ
+  listed = rankedIn level component n n
 
-entry-more : (f : ℕ → ℕ) (values numbers : List ℕ) (c n : ℕ) → c < length values → c < length numbers → ((i : ℕ) → i < c → getD values i 0 ≡ f (getD numbers i 0))
-    → (i : ℕ) → i < c + 1 → getD (set values c (f n)) i 0 ≡ f (getD (set numbers c n) i 0)
-entry-more f values numbers c n hv hn e i h =
-    let l : i ≤ c = omega arith in
-    ⊎-elim
-    (λ q. subst (λ z. getD (set values c (f n)) z 0 ≡ f (getD (set numbers c n) z 0)) (sym q) (getD-set-same values c (f n) 0 hv ∙ sym (ap f (getD-set-same numbers c n 0 hn))))
-    (λ lt.
-    let apart : i ≡ c → ⊥ = λ q. omega arith in
-    getD-set-other values c i (f n) 0 apart ∙ e i lt ∙ sym (ap f (getD-set-other numbers c i n 0 apart)))
-    (eq-or-lt-of-le l)
+  -- with the list at their front the numbers have it as their first, and these are places of the arrays
+  module _ (old : List ℕ) {new : List ℕ} {c : ℕ} (counted : c ≡ length listed) (stored : new ≡ front listed old) where
+    pub ranked-taken : take c new ≡ listed
+    ranked-taken = rw (counted, stored) (take-append-seam listed (drop (length listed) old))
 
--- a number other than n is below n + 1 exactly when it is below n
-below-same : (p : ℕ → Bool) (n v : ℕ) → (v ≡ n → ⊥) → ltb v n && p v ≡ ltb v (n + 1) && p v
-below-same p n v apart = ap (λ b. b && p v) (same (ltb v n) (ltb v (n + 1))
-    (λ t. le→leb (suc v) (n + 1) (omega (arith, leb→le (suc v) n t)))
-    (λ t. le→leb (suc v) n (⊎-elim (λ e. absurd (apart e)) (λ lt. lt) (eq-or-lt-of-le (let l : v ≤ n = omega (arith, leb→le (suc v) (n + 1) t) in l)))))
-
-module _ {p : ℕ → Bool} {f g : ℕ → ℕ} where
-  -- no vertex is looked at
-  pub entries-none : {lev sizes numbers : List ℕ} → Entries p f g 0 0 lev sizes numbers lev sizes numbers
-  entries-none {lev} {sizes} {numbers} = record {
-    counted = sym (count-below-zero p);
-    once = λ v. let none = le-ltb v 0 (omega arith) in rw none (count-start (eqb v) numbers);
-    levels = λ i h. absurd (omega arith);
-    sizes-of = λ i h. absurd (omega arith);
-    levels-kept = keeps-all lev;
-    sizes-kept = keeps-all sizes;
-    numbers-kept = keeps-all numbers;
-  }
-
-  module _ {n c : ℕ} {lev₀ sizes₀ numbers₀ lev sizes numbers : List ℕ} (E : Entries p f g n c lev₀ sizes₀ numbers₀ lev sizes numbers) where
-    -- n does not pass: the entries stay
-    pub entries-same : p n ≡ false → Entries p f g (n + 1) c lev₀ sizes₀ numbers₀ lev sizes numbers
-    entries-same none = record {
-      counted = omega (arith, E .counted, count-below-more p n, ap bit none);
-      once = λ v. E .once v ∙ ap bit (split (eqb v n)
-          (λ t. let e = eqb→eq v n t in rw (e, none, and-false, and-false))
-          (λ t. below-same p n v (neqb v n t)));
-      levels = E .levels;
-      sizes-of = E .sizes-of;
-      levels-kept = E .levels-kept;
-      sizes-kept = E .sizes-kept;
-      numbers-kept = E .numbers-kept;
-    }
-
-    -- n passes: it is one entry more
-    pub entries-more : p n ≡ true → c < length lev → c < length sizes → c < length numbers
-        → Entries p f g (n + 1) (c + 1) lev₀ sizes₀ numbers₀ (set lev c (f n)) (set sizes c (g n)) (set numbers c n)
-    entries-more passes hl hs hn = record {
-      counted = omega (arith, E .counted, count-below-more p n, ap bit passes);
-      once = λ v.
-          let longer : count (eqb v) (take (c + 1) (set numbers c n)) ≡ count (eqb v) (take c numbers) + bit (eqb v n)
-          = rw (add-one, take-suc-set numbers c n hn) (count-append (eqb v) (take c numbers) (n ∷ []) ∙ ap (λ z. count (eqb v) (take c numbers) + z) (count-single (eqb v) n)) in
-          split (eqb v n)
-          (λ t.
-          let e = eqb→eq v n t in
-          let before = bit-no (ltb v n && p v) (not-T (ltb v n && p v) (λ s. absurd (omega (arith, leb→le (suc v) n (and-l (ltb v n) (p v) s))))) in
-          let now = bit-yes (ltb v (n + 1) && p v) (and-i (ltb v (n + 1)) (p v) (le→leb (suc v) (n + 1) (omega arith)) (of-true (p v) (ap p e ∙ passes))) in
-          omega (arith, E .once v, bit-yes (eqb v n) t))
-          (λ t. omega (arith, E .once v, bit-no (eqb v n) t, ap bit (below-same p n v (neqb v n t))));
-      levels = entry-more f lev numbers c n hl hn (E .levels);
-      sizes-of = entry-more g sizes numbers c n hs hn (E .sizes-of);
-      levels-kept = keeps-more c (f n) lev₀ lev (E .levels-kept);
-      sizes-kept = keeps-more c (g n) sizes₀ sizes (E .sizes-kept);
-      numbers-kept = keeps-more c n numbers₀ numbers (E .numbers-kept);
-    }
-
-    -- there are no more entries than vertices looked at
-    pub entries-few : c ≤ n
-    entries-few = omega (arith, E .counted, count-length p (below n), length-below n)
-
-    -- an entry's number passes
-    pub entry-passes : c ≤ length numbers → (i : ℕ) → i < c → (getD numbers i 0 < n) × T (p (getD numbers i 0))
-    entry-passes long i h =
-        let w = getD numbers i 0 in
-        let size = length-take-le c numbers long in
-        let stands : In w (take c numbers) = subst (λ z. In z (take c numbers)) (getD-take c numbers i 0 h) (in-at (take c numbers) i 0 (omega arith)) in
-        let some = count-some (eqb w) (take c numbers) w stands (eqb-refl w) in
-        let t = split (ltb w n && p w) (λ s. s) (λ s. absurd (omega (arith, E .once w, bit-no (ltb w n && p w) s))) in
-        (leb→le (suc w) n (and-l (ltb w n) (p w) t), and-r (ltb w n) (p w) t)
+    pub ranked-placed : n ≤ 1024 → Placed c new
+    ranked-placed small i h =
+        let b : i < length listed = omega arith in
+        let m = in-falling (λ v. getD level v 0) (numbered component) n n (getD listed i 0) .0 (in-at listed i 0 b) in
+        omega (arith, ap (λ l. getD l i 0) stored ∙ List·getD-append listed (drop (length listed) old) 0 i b, m .0)
 
 -- ---- the list of the components
 
-module _ (G : Graph) (A : ℕ → Bool) (small : G .size ≤ 1024) (levels numbers sizes : List ℕ)
+-- what the arrays list is the defined list
+pub record Defined (G : Graph) (A : ℕ → Bool) (levels numbers sizes : List ℕ) : Type 0 where
+  pub low : Low levels numbers (G .size)
+  pub counted : length (rankedIn levels numbers (G .size) (G .size)) ≡ count (heads G A) (below (G .size))
+  pub few : length (rankedIn levels numbers (G .size) (G .size)) ≤ G .size
+  pub numbers-are : rankedIn levels numbers (G .size) (G .size) ≡ ranked G A
+  pub levels-are : map (λ v. getD levels v 0) (rankedIn levels numbers (G .size) (G .size)) ≡ map (level G A) (ranked G A)
+  pub sizes-are : map (λ v. getD sizes v 0) (rankedIn levels numbers (G .size) (G .size)) ≡ map (componentSize G A) (ranked G A)
+
+module _ (G : Graph) (L : Simple G) (A : ℕ → Bool) (small : G .size ≤ 1024) (levels numbers sizes : List ℕ)
     (levels-hold : Holds levels (G .size) (level G A)) (numbers-hold : Holds numbers (G .size) (component G A)) (sizes-hold : Holds sizes (G .size) (members numbers (G .size)))
   where
     is-head : (v : ℕ) → v < G .size → numbered numbers v ≡ heads G A v
@@ -176,18 +118,21 @@ module _ (G : Graph) (A : ℕ → Bool) (small : G .size ≤ 1024) (levels numbe
         and-i (not (A w)) (eqb (component G A v) (component G A w)) (free w (omega arith)) (eqb-of (component G A v) (component G A w) (own ∙ sym q)))
         (λ s. eqb-of (getD numbers w 0) v (e ∙ sym (eqb→eq (component G A v) (component G A w) (and-r (not (A w)) _ s)) ∙ own)))
 
-    module _ {c : ℕ} {lev₀ sizes₀ numbers₀ lev sizes′ numbers′ : List ℕ}
-        (E : Entries (numbered numbers) (λ v. getD levels v 0) (λ v. getD sizes v 0) (G .size) c lev₀ sizes₀ numbers₀ lev sizes′ numbers′) (long : c ≤ length numbers′)
-      where
-        -- the entries are as many as the components, and list them
-        pub listed-count : c ≡ count (heads G A) (below (G .size))
-        listed-count = E .counted ∙ count-cong (numbered numbers) (heads G A) (below (G .size)) (λ v i. is-head v (in-below (G .size) v .0 i))
+    is-ranked : rankedIn levels numbers (G .size) (G .size) ≡ ranked G A
+    unfolding ranked
+    is-ranked = falling-cong _ _ _ _ (G .size) is-head levels-hold (G .size)
 
-        pub lists : Lists G A c lev sizes′ numbers′
-        lists = record {
-          once = λ v. E .once v ∙ ap bit (split (ltb v (G .size))
-              (λ t. ap (λ z. ltb v (G .size) && z) (is-head v (leb→le (suc v) (G .size) t)))
-              (λ t. rw (false-of (ltb v (G .size)) t)));
-          levels = λ i h. let r = entry-passes E long i h in E .levels i h ∙ levels-hold (getD numbers′ i 0) (r .0);
-          members = λ i h. let r = entry-passes E long i h in E .sizes-of i h ∙ sizes-hold (getD numbers′ i 0) (r .0) ∙ size-of (getD numbers′ i 0) (r .0) (r .1);
+    pub defined : Defined G A levels numbers sizes
+    defined =
+        let counted = ap length is-ranked ∙ ranked-length G L A in
+        record {
+          low = λ v b h. subst (λ z. z < G .size) (sym (levels-hold v b)) (level-lt G L A v b (free v (subst (λ z. z < G .size) (numbers-hold v b) h)));
+          counted = counted;
+          few = omega (arith, count-length (heads G A) (below (G .size)), length-below (G .size));
+          numbers-are = is-ranked;
+          levels-are = ap (map (λ v. getD levels v 0)) is-ranked ∙ map-cong _ _ (ranked G A) (λ v i. levels-hold v (ranked-in G L A v i .0));
+          sizes-are = ap (map (λ v. getD sizes v 0)) is-ranked ∙ map-cong _ _ (ranked G A) (λ v i.
+              let m = ranked-in G L A v i in
+              let b = m .0 in
+              sizes-hold v b ∙ size-of v b (subst T (sym (is-head v b)) (m .1)));
         }

@@ -1,2 +1,3 @@
 pub mod Answers
+pub mod Chains
 pub mod Entries

@@ -1,14 +1,17 @@
-// The list of components: each once, as level, size and number.
+// The list of components: each once, as level, size and number, by falling level, then by rising number.
 ghost use mathlib.Core.Path.{_≡_};
+ghost use mathlib.Core.List.{map};
 ghost use Prim.Native.Nat.{_≤_};
-ghost use lib.ListN.{length, getD};
+ghost use lib.ListN.{length, take, getD};
 ghost use Rattle.finite.specs.Count.{count as countIn, below};
 ghost use Rattle.table.specs.Table.{vertices};
 ghost use Rattle.anchored.specs.Component.{heads};
 ghost use Rattle.shells.specs.Input.{graphOf, anchoredBy, Admitted};
 ghost use Rattle.shells.specs.Arrays.{Holds};
-ghost use Rattle.components.specs.Answers.{listOf, Lists, Keeps, Holding};
-ghost use Rattle.components.specs.Entries.{numbered, members, Entries};
+ghost use Rattle.components.specs.Answers.{listOf, numbersOf, levelsOf, sizesOf, front, listed};
+ghost use Rattle.components.specs.Entries.{members, rankedIn, Low, Placed};
+
+mod rank; // the order of the list
 
 // The answer of the list: how many components it has, or a refusal.
 pub enum Listed {
@@ -32,7 +35,20 @@ fn count_members(n: usize, component: &[u16; 1024], size: &mut [u16; 1024])
     }
 }
 
-// Lists the vertices that are their component's number, in ascending order, with level and size. The result is how many there are.
+// Puts the values of the first `count` numbers at the front of a slice.
+fn gather(count: usize, numbers: &[u16], value: &[u16; 1024], out: &mut [u16])
+    requires { ⌜ (count ≤ length (now numbers)) × (count ≤ length (now out)) ⌝ }
+    requires { ⌜ Placed count (now numbers) ⌝ }
+    ensures { λ _. ⌜ now (out .exit) ≡ front (map (λ v. getD (now (value .entry)) v 0) (take count (now (numbers .entry)))) (now (out .entry)) ⌝ }
+{
+    let mut i: usize = 0;
+    while i < count {
+        out[i] = value[numbers[i] as usize];
+        i += 1;
+    }
+}
+
+// Lists the components in order, with level and size. The result is how many there are.
 fn list(
     n: usize,
     level: &[u16; 1024],
@@ -43,20 +59,17 @@ fn list(
     numbers: &mut [u16],
 ) -> usize
     requires { ⌜ n ≤ 1024 ⌝ }
+    requires { ⌜ Low (now level) (now component) n ⌝ }
     requires { ⌜ (length (now levels) ≡ n) × (length (now sizes) ≡ n) × (length (now numbers) ≡ n) ⌝ }
-    ensures { λ r. ⌜ Entries (numbered (now (component .entry))) (λ v. getD (now (level .entry)) v 0) (λ v. getD (now (size .entry)) v 0) n r (now (levels .entry)) (now (sizes .entry)) (now (numbers .entry)) (now (levels .exit)) (now (sizes .exit)) (now (numbers .exit)) ⌝ }
+    requires { ⌜ length (rankedIn (now level) (now component) n n) ≤ n ⌝ }
+    ensures count { λ r. ⌜ r ≡ length (rankedIn (now (level .entry)) (now (component .entry)) n n) ⌝ }
+    ensures levels { λ _. ⌜ now (levels .exit) ≡ front (map (λ v. getD (now (level .entry)) v 0) (rankedIn (now (level .entry)) (now (component .entry)) n n)) (now (levels .entry)) ⌝ }
+    ensures sizes { λ _. ⌜ now (sizes .exit) ≡ front (map (λ v. getD (now (size .entry)) v 0) (rankedIn (now (level .entry)) (now (component .entry)) n n)) (now (sizes .entry)) ⌝ }
+    ensures numbers { λ _. ⌜ now (numbers .exit) ≡ front (rankedIn (now (level .entry)) (now (component .entry)) n n) (now (numbers .entry)) ⌝ }
 {
-    let mut count: usize = 0;
-    let mut v: usize = 0;
-    while v < n {
-        if component[v] == v as u16 {
-            levels[count] = level[v];
-            sizes[count] = size[v];
-            numbers[count] = v as u16;
-            count += 1;
-        }
-        v += 1;
-    }
+    let count = rank::rank(n, level, component, numbers);
+    gather(count, numbers, level, levels);
+    gather(count, numbers, size, sizes);
     count
 }
 
@@ -72,8 +85,9 @@ fn write_list(
     requires { ⌜ Admitted (now starts) (now links) (now anchored) ⌝ }
     requires { ⌜ (length (now levels) ≡ vertices (now starts)) × (length (now sizes) ≡ vertices (now starts)) × (length (now numbers) ≡ vertices (now starts)) ⌝ }
     ensures count { λ r. ⌜ r ≡ countIn (heads (graphOf (now (starts .entry)) (now (links .entry))) (anchoredBy (now (anchored .entry)))) (below (vertices (now (starts .entry)))) ⌝ }
-    ensures list { λ r. ⌜ Lists (graphOf (now (starts .entry)) (now (links .entry))) (anchoredBy (now (anchored .entry))) r (now (levels .exit)) (now (sizes .exit)) (now (numbers .exit)) ⌝ }
-    ensures kept { λ r. ⌜ Keeps r (now (levels .entry)) (now (levels .exit)) × Keeps r (now (sizes .entry)) (now (sizes .exit)) × Keeps r (now (numbers .entry)) (now (numbers .exit)) ⌝ }
+    ensures levels { λ _. ⌜ now (levels .exit) ≡ front (levelsOf (now (starts .entry)) (now (links .entry)) (now (anchored .entry))) (now (levels .entry)) ⌝ }
+    ensures sizes { λ _. ⌜ now (sizes .exit) ≡ front (sizesOf (now (starts .entry)) (now (links .entry)) (now (anchored .entry))) (now (sizes .entry)) ⌝ }
+    ensures numbers { λ _. ⌜ now (numbers .exit) ≡ front (numbersOf (now (starts .entry)) (now (links .entry)) (now (anchored .entry))) (now (numbers .entry)) ⌝ }
 {
     let mut level = [0u16; 1024];
     let mut layer = [0u16; 1024];
@@ -102,7 +116,9 @@ pub fn list_components(
     numbers: &mut [u16],
 ) -> Listed
     ensures answer { λ r. ⌜ r ≡ listOf (now (starts .entry)) (now (links .entry)) (now (anchored .entry)) (length (now (levels .entry))) (length (now (sizes .entry))) (length (now (numbers .entry))) ⌝ }
-    ensures slices { λ r. ⌜ Holding (graphOf (now (starts .entry)) (now (links .entry))) (anchoredBy (now (anchored .entry))) r (now (levels .entry)) (now (sizes .entry)) (now (numbers .entry)) (now (levels .exit)) (now (sizes .exit)) (now (numbers .exit)) ⌝ }
+    ensures levels { λ r. ⌜ now (levels .exit) ≡ listed r (levelsOf (now (starts .entry)) (now (links .entry)) (now (anchored .entry))) (now (levels .entry)) ⌝ }
+    ensures sizes { λ r. ⌜ now (sizes .exit) ≡ listed r (sizesOf (now (starts .entry)) (now (links .entry)) (now (anchored .entry))) (now (sizes .entry)) ⌝ }
+    ensures numbers { λ r. ⌜ now (numbers .exit) ≡ listed r (numbersOf (now (starts .entry)) (now (links .entry)) (now (anchored .entry))) (now (numbers .entry)) ⌝ }
 {
     let admitted = level::work::admit_slices(
         starts,

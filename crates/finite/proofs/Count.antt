@@ -2,7 +2,7 @@
 use mathlib.Core.Path.{_≡_, refl, sym, ap, _∙_, subst}
 use mathlib.Core.Logic.{_↔_, _⊎_, inl, inr, ⊎-elim}
 use mathlib.Core.Bool.{Bool, true, false, not, _&&_, _||_, cond}
-use mathlib.Core.List.{List, [], _∷_, _++_, flatten, append-assoc, append-nil}
+use mathlib.Core.List.{List, [], _∷_, _++_, map, flatten, append-assoc, append-nil}
 use Prim.Native.Nat.{ℕ, zero, suc, _+_, _-_, _≤_, _<_, zero-le}
 use native.Mathlib.Nat.{not-suc-le-zero, eq-or-lt-of-le}
 use native.Mathlib.Numerals.{add-one}
@@ -55,6 +55,10 @@ in-append (u ∷ us) m w = let r = in-append us m w in (
   ⊎-elim (⊎-elim inl (λ j. inr (r .1 (inl j)))) (λ j. inr (r .1 (inr j))),
 )
 
+pub map-cong : (f h : ℕ → ℕ) (l : List ℕ) → ((v : ℕ) → In v l → f v ≡ h v) → map f l ≡ map h l
+map-cong f h [] e = refl
+map-cong f h (w ∷ ws) e = let here = e w (inl refl) in rw (here, map-cong f h ws (λ v i. e v (inr i)))
+
 -- what two lists of lists hold, one behind the other
 pub flatten-append : (ls ms : List (List ℕ)) → flatten (ls ++ ms) ≡ flatten ls ++ flatten ms
 unfolding flatten
@@ -91,6 +95,11 @@ distinct-before [] i d h j = absurd (not-suc-le-zero h)
 distinct-before (u ∷ us) zero d h j = j
 distinct-before (u ∷ us) (suc i) d h (inl e) = d .0 (subst (λ z. In z us) e (in-at us i 0 (omega arith)))
 distinct-before (u ∷ us) (suc i) d h (inr j) = distinct-before us i (d .1) (omega arith) j
+
+pub distinct-drop : (l : List ℕ) (i : ℕ) → Distinct l → Distinct (drop i l)
+distinct-drop l zero d = d
+distinct-drop [] (suc i) d = d
+distinct-drop (u ∷ us) (suc i) d = distinct-drop us i (d .1)
 
 -- a list of zeros, read at any place
 pub zeros-at : (m i : ℕ) → _≡_ {A = ℕ} (getD (replicate m 0) i 0) 0
@@ -178,6 +187,11 @@ pub distinct-below : (n : ℕ) → Distinct (below n)
 unfolding below tabulate
 distinct-below zero = tt
 distinct-below (suc n) = distinct-snoc (below n) n (distinct-below n) (λ i. absurd (omega (arith, in-below n n .0 i)))
+
+-- from v on v comes first
+pub drop-below : (n v : ℕ) → v < n → drop v (below n) ≡ v ∷ drop (v + 1) (below n)
+unfolding below
+drop-below n v h = let e = tabulate-at (λ i. i) n v h in drop-cons (below n) v 0 (omega (arith, length-below n)) ∙ rw (e, add-one)
 
 -- ---- count: one test
 

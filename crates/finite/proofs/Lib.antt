@@ -1,6 +1,7 @@
 pub mod Tests
 pub mod Count
 pub mod Search
+pub mod Falling
 pub mod Sets
 pub mod Pairs
 pub mod Bytes

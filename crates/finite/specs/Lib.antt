@@ -3,3 +3,4 @@ pub mod Search
 pub mod Sets
 pub mod Pairs
 pub mod Bytes
+pub mod Falling

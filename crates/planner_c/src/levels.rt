@@ -8,7 +8,7 @@ ghost use Rattle.anchored.specs.Component.{component};
 ghost use Rattle.shells.specs.Input.{graphOf, anchoredBy};
 ghost use Rattle.level.specs.SheetCheck.{checkSheetOf};
 ghost use Rattle.level.specs.Answers.{workOf, written};
-ghost use Rattle.components.specs.Answers.{listOf, Holding};
+ghost use Rattle.components.specs.Answers.{listOf, numbersOf, levelsOf, sizesOf, listed};
 ghost use Rattle.search.specs.Answers.{followersOf, marksOf, marked};
 ghost use Rattle.numbers.specs.Numbers.{checkedAs, listedAs, searchedAs};
 use numbers::Answer;
@@ -40,7 +40,9 @@ pub extern "C" fn planner_list_components(
     numbers: &mut [u16],
 ) -> Answer
     ensures answer { λ r. ⌜ r ≡ listedAs (listOf (now (starts .entry)) (now (links .entry)) (now (anchored .entry)) (length (now (levels .entry))) (length (now (sizes .entry))) (length (now (numbers .entry)))) ⌝ }
-    ensures slices { λ r. ⌜ Holding (graphOf (now (starts .entry)) (now (links .entry))) (anchoredBy (now (anchored .entry))) (listOf (now (starts .entry)) (now (links .entry)) (now (anchored .entry)) (length (now (levels .entry))) (length (now (sizes .entry))) (length (now (numbers .entry)))) (now (levels .entry)) (now (sizes .entry)) (now (numbers .entry)) (now (levels .exit)) (now (sizes .exit)) (now (numbers .exit)) ⌝ }
+    ensures levels { λ r. ⌜ now (levels .exit) ≡ listed (listOf (now (starts .entry)) (now (links .entry)) (now (anchored .entry)) (length (now (levels .entry))) (length (now (sizes .entry))) (length (now (numbers .entry)))) (levelsOf (now (starts .entry)) (now (links .entry)) (now (anchored .entry))) (now (levels .entry)) ⌝ }
+    ensures sizes { λ r. ⌜ now (sizes .exit) ≡ listed (listOf (now (starts .entry)) (now (links .entry)) (now (anchored .entry)) (length (now (levels .entry))) (length (now (sizes .entry))) (length (now (numbers .entry)))) (sizesOf (now (starts .entry)) (now (links .entry)) (now (anchored .entry))) (now (sizes .entry)) ⌝ }
+    ensures numbers { λ r. ⌜ now (numbers .exit) ≡ listed (listOf (now (starts .entry)) (now (links .entry)) (now (anchored .entry)) (length (now (levels .entry))) (length (now (sizes .entry))) (length (now (numbers .entry)))) (numbersOf (now (starts .entry)) (now (links .entry)) (now (anchored .entry))) (now (numbers .entry)) ⌝ }
 {
     numbers::of_listed(components::list_components(starts, links, anchored, levels, sizes, numbers))
 }

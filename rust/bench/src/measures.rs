@@ -81,15 +81,19 @@ fn several(seed: u64) -> Vec<Pool> {
 
 pub fn working(seeds: &[u64]) -> Vec<Line> {
     let work = "fresh working: table check, levels, layers, components";
+    let list = "component list: fresh working, each component with its size, in order";
     let mut lines = [
         Line::new(work, "plain Rust: core numbers by buckets, nothing else"),
         Line::new(work, "plain Rust: levels by buckets, layers, components, no check"),
         Line::new("table check", "plain Rust: core numbers by buckets, nothing else"),
+        Line::new(list, "the planner's fresh working"),
+        Line::new(list, "plain Rust: levels by buckets, layers, components, counted and sorted, no check"),
     ];
     for &seed in seeds {
         let pools = several(seed);
         let (mut cores, none, mut sheet) = (Cores::default(), vec![false; 1000], Sheet::room(1000));
-        let [ours, levels, all, check] = times(
+        let (mut entries, mut count, mut expected) = ([0; 3].map(|_| vec![0u16; 1000]), 0, vec![]);
+        let [ours, levels, all, check, ranked, sorted] = times(
             21,
             1,
             [
@@ -101,13 +105,24 @@ pub fn working(seeds: &[u64]) -> Vec<Line> {
                 },
                 &mut || pools.iter().for_each(|pool| drop(black_box(quick::sheet(black_box(plain(pool)), &none)))),
                 &mut || pools.iter().for_each(|pool| planner::check(&pool.starts, &pool.links).unwrap()),
+                &mut || {
+                    for pool in &pools {
+                        let [levels, sizes, numbers] = &mut entries;
+                        count = planner::list_components(input(pool), levels, sizes, numbers).unwrap();
+                    }
+                },
+                &mut || pools.iter().for_each(|pool| expected = quick::sheet(black_box(plain(pool)), &none).components()),
             ],
         )
         .map(|pass| pass / POOLS as f64);
+        let listed: Vec<_> = (0..count).map(|i| (entries[0][i], entries[1][i], entries[2][i])).collect();
+        assert_eq!(listed, expected);
         assert_eq!(cores.work(plain(&pools[POOLS - 1]), &none), sheet.levels);
         lines[0].times.push((ours, levels));
         lines[1].times.push((ours, all));
         lines[2].times.push((check, levels));
+        lines[3].times.push((ranked, ours));
+        lines[4].times.push((ranked, sorted));
     }
     lines.into()
 }

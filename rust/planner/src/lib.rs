@@ -81,7 +81,7 @@ pub fn work(input: Input, levels: &mut [u16], layers: &mut [u16], components: &m
     .done()
 }
 
-/// The component list: how many entries were written.
+/// The component list, by falling level, then by rising number: how many entries were written.
 pub fn list_components(input: Input, levels: &mut [u16], sizes: &mut [u16], numbers: &mut [u16]) -> Result<usize, Refusal> {
     let Input { starts, links, anchored } = input;
     unsafe {

@@ -77,10 +77,13 @@ impl Case<'_> {
     }
 }
 
-/// How many calls of each operation gave each number, 0 where it accepted; how many vertices the accepted searches marked.
+/// How many calls of each operation gave each number, 0 where it accepted; how many component lists have two components of one level,
+/// and how many one before a lower number because of its level; how many vertices the accepted searches marked.
 #[derive(Default, PartialEq, Debug)]
 struct Compared {
     answers: BTreeMap<(&'static str, u64), usize>,
+    levels_tie: usize,
+    levels_decide: usize,
     lifted: usize,
     reached: usize,
 }
@@ -123,17 +126,17 @@ impl Compared {
         let mut lent = before.clone();
         let [levels, sizes, numbers] = &mut lent;
         let answer = planner::list_components(input(case.pool), levels, sizes, numbers);
-        let components = case.lent(&lengths).map(|defined| defined.sheet.components());
-        let expected = components.as_ref().map(|components| components.len()).map_err(|e| *e);
-        assert_eq!(answer, expected, "{:?} {lengths:?}", case.pool);
-        let count = expected.unwrap_or(0);
-        let mut listed: Vec<(u16, u16, u16)> = (0..count).map(|i| (lent[0][i], lent[1][i], lent[2][i])).collect();
-        listed.sort();
-        assert!(listed.iter().eq(components.iter().flatten()), "{:?} {listed:?}", case.pool);
-        for (lent, before) in lent.iter().zip(&before) {
-            assert_eq!(lent[count..], before[count..], "{:?} {lengths:?}", case.pool);
+        let list = case.lent(&lengths).map(|defined| defined.sheet.components());
+        let mut expected = before;
+        for (i, &(level, size, number)) in list.iter().flatten().enumerate() {
+            (expected[0][i], expected[1][i], expected[2][i]) = (level, size, number);
         }
+        assert_eq!(answer, list.as_ref().map(Vec::len).map_err(|e| *e), "{:?} {lengths:?}", case.pool);
+        assert_eq!(lent, expected, "{:?} {lengths:?}", case.pool);
         self.note("list_components", &answer);
+        let entries = list.unwrap_or_default();
+        self.levels_tie += entries.windows(2).any(|pair| pair[0].0 == pair[1].0) as usize;
+        self.levels_decide += entries.windows(2).any(|pair| pair[0].2 > pair[1].2) as usize;
     }
 
     fn check_sheet(&mut self, case: &Case, [levels, layers]: &[Vec<u16>; 2]) {
@@ -226,6 +229,7 @@ fn all_small_graphs() {
     let searches = [0, 15, 16].map(|number| ("followers", number)).into_iter().zip([free, pools, free]);
     assert_eq!(right.answers, operations.into_iter().chain(searches).collect());
     assert!(0 < right.lifted && right.lifted < right.reached);
+    assert!(0 < right.levels_tie && 0 < right.levels_decide);
 
     // too short and too long, but where there are no vertices only too long; too low and too high for each vertex, free or anchored
     let (lengths, numbers) = (2 * pools - 1, 2 * 2 * free);
@@ -263,6 +267,30 @@ fn random_graphs() {
     assert_eq!((sound.answers[&("check", 0)], damaged.calls("check")), (count, count));
     assert!([0, 12, 13, 14, 15, 16].into_iter().all(|number| sound.met(number)));
     assert!(DAMAGES.into_iter().all(|number| damaged.met(number)));
+}
+
+/// Component lists in slices of n places that held 7: the levels, the sizes and the numbers.
+#[test]
+fn component_lists() {
+    let cases = [
+        // two of equal level
+        (Pool::of_edges(4, [(0, 2), (1, 3)], vec![0; 4]), [vec![1, 1, 7, 7], vec![2, 2, 7, 7], vec![0, 1, 7, 7]]),
+        // a higher number first because of its level
+        (Pool::of_edges(4, [(1, 2)], vec![0; 4]), [vec![1, 0, 0, 7], vec![2, 1, 1, 7], vec![1, 0, 3, 7]]),
+        // one anchored, three levels
+        (Pool::of_edges(6, [(1, 2), (3, 4), (3, 5), (4, 5)], vec![0, 0, 1, 0, 0, 0]), [vec![2, 1, 0, 7, 7, 7], vec![3, 1, 1, 7, 7, 7], vec![3, 1, 0, 7, 7, 7]]),
+        // all anchored
+        (Pool::of_edges(4, [(0, 1), (1, 2), (2, 3)], vec![1; 4]), [vec![7; 4], vec![7; 4], vec![7; 4]]),
+        // no vertices
+        (Pool::of_edges(0, [], vec![]), [vec![], vec![], vec![]]),
+    ];
+    for (pool, expected) in cases {
+        let mut lent = [0; 3].map(|_| vec![7u16; pool.size()]);
+        let [levels, sizes, numbers] = &mut lent;
+        let count = expected[2].iter().filter(|&&number| number != 7).count();
+        assert_eq!(planner::list_components(input(&pool), levels, sizes, numbers), Ok(count), "{pool:?}");
+        assert_eq!(lent, expected, "{pool:?}");
+    }
 }
 
 #[test]

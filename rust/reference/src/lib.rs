@@ -3,7 +3,8 @@
 
 pub mod quick;
 
-use std::collections::BTreeSet;
+use std::cmp::Reverse;
+use std::collections::{BTreeMap, BTreeSet};
 
 /// A refusal: number and place.
 pub type Refusal = (u32, u64);
@@ -83,13 +84,15 @@ pub struct Sheet {
 }
 
 impl Sheet {
-    /// The components as (level, size, number), in any order.
-    pub fn components(&self) -> BTreeSet<(u16, u16, u16)> {
-        let numbers: BTreeSet<u16> = self.component.iter().copied().filter(|&p| p != ANCHORED).collect();
-        numbers
-            .into_iter()
-            .map(|p| (self.level[p as usize], self.component.iter().filter(|&&q| q == p).count() as u16, p))
-            .collect()
+    /// The component list, each component as (level, size, number): by falling level, then by rising number.
+    pub fn components(&self) -> Vec<(u16, u16, u16)> {
+        let mut sizes = BTreeMap::new();
+        for &number in self.component.iter().filter(|&&number| number != ANCHORED) {
+            *sizes.entry(number).or_insert(0) += 1;
+        }
+        let mut list: Vec<_> = sizes.into_iter().map(|(number, size)| (self.level[number as usize], size, number)).collect();
+        list.sort_by_key(|&(level, _, number)| (Reverse(level), number));
+        list
     }
 
     /// Tests 13 and 14 of levels and layers, where this is the defined sheet.

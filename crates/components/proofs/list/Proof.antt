@@ -1,139 +1,77 @@
--- `list` meets its contract. The invariant: the entries are the vertices below v that are their component's number. Assumes nothing.
-use mathlib.Core.Path.{_≡_}
-use mathlib.Core.Logic.{⊎-elim}
-use mathlib.Core.List.{List}
-use Prim.Native.Nat.{ℕ, _-_, _≤_, _<_}
+-- `list` meets its contract: the numbers in order, and the levels and sizes at them. Assumes nothing.
+use mathlib.Core.Path.{ap, _∙_}
+use mathlib.Core.List.{map}
+use Prim.Native.Nat.{_≤_}
 use native.Mathlib.Omega.{arith}
 use lib.ListN.{length, getD}
-use borrow.Author.Tests.{eq-eqb, ne-eqb}
-use Rattle.components.specs.Entries.{numbered, Entries}
-use Rattle.components.proofs.Entries.{entries-none, entries-same, entries-more, entries-few}
+use Rattle.components.specs.Answers.{front}
+use Rattle.components.specs.Entries.{Placed}
+use Rattle.components.proofs.Entries.{ranked-taken, ranked-placed}
+use borrow.Author.Needs.{needs}
 use Rattle.components.proofs.list.Statement.{statement}
 use Rattle.components.proofs.list.Tie as tie
-use borrow.Author.Needs.{needs}
 
-abbrev at : List ℕ → ℕ → ℕ
-at xs v = getD xs v 0
+abbrev entry : tie.After-rank → tie.Start
+entry c = c .before .before .before .before .before
 
-abbrev Inv-loop : tie.InvT-loop
-Inv-loop n level component size levels₀ sizes₀ numbers₀ count₀ v₀ levels sizes numbers count v = (v ≤ n) × Entries (numbered component) (at level) (at size) v count levels₀ sizes₀ numbers₀ levels sizes numbers
+abbrev ranked : tie.After-gather → tie.After-rank
+ranked c = c .before .before .before .before .before
 
-abbrev μ-loop : tie.MeasureT-loop
-μ-loop n level component size levels₀ sizes₀ numbers₀ count₀ v₀ levels sizes numbers count v = n - v
+abbrev gathered : tie.After-slice-known6 → tie.After-gather
+gathered c = c .before .before .before .before .before .before .before
 
--- the next entry has a place
-place : (c : tie.Then1 Inv-loop μ-loop) → let loop = c .before .before .before .loop in (loop .count < length (loop .levels)) × (loop .count < length (loop .sizes)) × (loop .count < length (loop .numbers))
-place c =
-    let head = c .before .before .before in
-    let E = head .loop .inv .1 in
-    let few = entries-few E in
-    omega (arith, E .levels-kept .long, E .sizes-kept .long, E .numbers-kept .long)
+-- the numbers are ready to be looked up
+ready : (c : tie.After-rank) → (c .rank .result ≤ length (c .rank .last .1 .1 .1 .0)) × Placed (c .rank .result) (c .rank .last .1 .1 .1 .0)
+ready c =
+    let start = entry c in
+    let e = c .rank .ensures in
+    (omega (arith, e .0, c .rank .kept, start .pre), ranked-placed (start .args .level .now) (start .args .component .now) (start .args .n) (start .args .numbers .now) (e .0) (e .1) (start .pre .0))
 
-loop-holds : tie.Need-loop-holds Inv-loop μ-loop
-loop-holds c = (search needs, entries-none)
+rank-requires : tie.Need-rank-requires
+rank-requires c κs = let pre = c .before .before .before .before .pre in (pre .0, (pre .1 .0, omega (arith, pre .1 .1)))
 
-mul-if1 : tie.Need-mul-if1 Inv-loop μ-loop
-mul-if1 c = search needs
+gather-requires : tie.Need-gather-requires
+gather-requires c κs =
+    let at = c .before .before .before .before in
+    let r = ready at in
+    ((r .0, omega (arith, at .rank .ensures .0, entry at .pre)), r .1)
 
-element-copy-out-if1 : tie.Need-element-copy-out-if1 Inv-loop μ-loop
-element-copy-out-if1 c = search needs
+gather-requires-2 : tie.Need-gather-requires-2
+gather-requires-2 c κs =
+    let at = ranked (c .before .before .before .before) in
+    let r = ready at in
+    ((r .0, omega (arith, at .rank .ensures .0, entry at .pre)), r .1)
 
-cast-if1 : tie.Need-cast-if1 Inv-loop μ-loop
-cast-if1 c = search needs
+same-length : tie.Need-same-length
+same-length c = search needs
 
-mul-levels : tie.Need-mul-levels Inv-loop μ-loop
-mul-levels c = search needs
+same-length-2 : tie.Need-same-length-2
+same-length-2 c = search needs
 
-element-copy-out-levels : tie.Need-element-copy-out-levels Inv-loop μ-loop
-element-copy-out-levels c = search needs
+same-length-3 : tie.Need-same-length-3
+same-length-3 c = search needs
 
-mul-levels-2 : tie.Need-mul-levels-2 Inv-loop μ-loop
-mul-levels-2 c = omega (arith, place (c .before))
-
-slice-write-levels : tie.Need-slice-write-levels Inv-loop μ-loop
-slice-write-levels c = omega (arith, place (c .before))
-
-mul-sizes : tie.Need-mul-sizes Inv-loop μ-loop
-mul-sizes c = search needs
-
-element-copy-out-sizes : tie.Need-element-copy-out-sizes Inv-loop μ-loop
-element-copy-out-sizes c = search needs
-
-mul-sizes-2 : tie.Need-mul-sizes-2 Inv-loop μ-loop
-mul-sizes-2 c = omega (arith, place (c .before .before))
-
-slice-write-sizes : tie.Need-slice-write-sizes Inv-loop μ-loop
-slice-write-sizes c = omega (arith, place (c .before .before))
-
-cast-numbers : tie.Need-cast-numbers Inv-loop μ-loop
-cast-numbers c = search needs
-
-mul-numbers : tie.Need-mul-numbers Inv-loop μ-loop
-mul-numbers c = omega (arith, place (c .before .before))
-
-slice-write-numbers : tie.Need-slice-write-numbers Inv-loop μ-loop
-slice-write-numbers c = omega (arith, place (c .before .before))
-
-add-count : tie.Need-add-count Inv-loop μ-loop
-add-count c = omega (arith, place (c .before .before))
-
-add-v : tie.Need-add-v Inv-loop μ-loop
-add-v c = search needs
-
-loop-less : tie.Need-loop-less Inv-loop μ-loop
-loop-less c = search needs
-
-loop-again : tie.Need-loop-again Inv-loop μ-loop
-loop-again c =
-    let head = c .before .before .before in
-    let E = head .loop .inv .1 in
-    let number = getD (head .before .args .component .now) (head .loop .v) 0 in
-    ⊎-elim
-    (λ w.
-    let room = place record { before = c .before; if1 = w .0 } in
-    (omega arith, rw (w .3, w .4, w .5, w .6) (entries-more E (eq-eqb number (head .loop .v) (omega (arith, w .0 .taken))) (room .0) (room .1) (room .2))))
-    (λ w. (omega arith, rw (w .1, w .2, w .3, w .4) (entries-same E (ne-eqb _ _ (w .0 .left)))))
-    (c .if1 .came)
-
-same-length : tie.Need-same-length Inv-loop μ-loop
-same-length c = c .before .loop .inv .1 .levels-kept .long
-
-same-length-2 : tie.Need-same-length-2 Inv-loop μ-loop
-same-length-2 c = c .before .loop .inv .1 .sizes-kept .long
-
-same-length-3 : tie.Need-same-length-3 Inv-loop μ-loop
-same-length-3 c = c .before .loop .inv .1 .numbers-kept .long
-
-returns : tie.Need-returns Inv-loop μ-loop
+returns : tie.Need-returns
 returns c =
-    let done : c .before .loop .v ≡ c .before .before .args .n = omega arith in
-    rw done at (c .before .loop .inv .1)
+    let first = gathered c in
+    let at = ranked first in
+    let args = entry at .args in
+    let e = at .rank .ensures in
+    let taken = ranked-taken (args .level .now) (args .component .now) (args .n) (args .numbers .now) (e .0) (e .1) in (
+      e .0,
+      (
+        first .gather .ensures ∙ ap (λ l. front (map (λ v. getD (args .level .now) v 0) l) (args .levels .now)) taken,
+        (c .before .before .gather2 .ensures ∙ ap (λ l. front (map (λ v. getD (args .size .now) v 0) l) (args .sizes .now)) taken, e .1),
+      ),
+    )
 
 pub list-spec : {M : Type 1} → statement M
 list-spec =
     tie.close
     (tie.spec
-    Inv-loop
-    μ-loop
-    loop-holds
-    mul-if1
-    element-copy-out-if1
-    cast-if1
-    mul-levels
-    element-copy-out-levels
-    mul-levels-2
-    slice-write-levels
-    mul-sizes
-    element-copy-out-sizes
-    mul-sizes-2
-    slice-write-sizes
-    cast-numbers
-    mul-numbers
-    slice-write-numbers
-    add-count
-    add-v
-    loop-less
-    loop-again
+    rank-requires
+    gather-requires
+    gather-requires-2
     same-length
     same-length-2
     same-length-3

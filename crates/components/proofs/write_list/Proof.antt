@@ -1,10 +1,11 @@
--- `write_list` meets its contract: the entries are the components of the definitions. Assumes nothing.
+-- `write_list` meets its contract: the arrays list the components of the definitions. Assumes nothing.
+use mathlib.Core.Path.{ap, _∙_}
 use Prim.Native.Nat.{_≤_}
-use native.Mathlib.Omega.{arith}
-use lib.ListN.{length}
 use Rattle.table.specs.Table.{vertices}
 use Rattle.shells.specs.Input.{graphOf, anchoredBy}
-use Rattle.components.proofs.Entries.{entries-few, listed-count, lists}
+use Rattle.shells.proofs.Laws.{simple}
+use Rattle.components.specs.Answers.{front}
+use Rattle.components.proofs.Entries.{Defined, defined}
 use Rattle.components.proofs.write_list.Statement.{statement}
 use Rattle.components.proofs.write_list.Tie as tie
 
@@ -23,6 +24,13 @@ called c = c .before .before .before .before .before .before
 small : (c : tie.After-fill) → vertices (entry c .args .starts .now) ≤ 1024
 small c = entry c .pre .0 .table .small
 
+-- the arrays list the defined components
+lists : (c : tie.After-count-members) → let args = entry (filled c) .args in
+    Defined (graphOf (args .starts .now) (args .links .now)) (anchoredBy (args .anchored .now)) (filled c .fill .last .1 .1 .1 .0) (filled c .fill .last .1 .1 .1 .1 .1 .0) (c .count-members .last .1 .1 .0)
+lists c =
+    let holds = filled c .fill .ensures in
+    defined _ (simple _ _ (entry (filled c) .pre .0 .table)) _ (small (filled c)) _ _ _ (holds .0) (holds .1 .1) (c .count-members .ensures)
+
 sub-n : tie.Need-sub-n
 sub-n c = c .before .before .before .before .before .before .pre .0 .table .framed .some
 
@@ -34,8 +42,9 @@ count-members-requires c κs = small (c .before .before)
 
 list-requires : tie.Need-list-requires
 list-requires c κs =
-    let scratch = filled (c .before .before .before .before .before .before) in
-    (small scratch, entry scratch .pre .1)
+    let at = c .before .before .before .before .before .before in
+    let D = lists at in
+    (small (filled at), (D .low, (entry (filled at) .pre .1, D .few)))
 
 same-length : tie.Need-same-length
 same-length c = called c .list .kept .1 .1 .1 .1 .0
@@ -48,21 +57,13 @@ same-length-3 c = called c .list .kept .1 .1 .1 .1 .1 .1 .0
 
 returns : tie.Need-returns
 returns c =
-    let members = counted (called c) in
-    let scratch = filled members in
-    let start = entry scratch in
-    let args = start .args in
-    let last = scratch .fill .last .1 .1 .1 in
-    let holds = scratch .fill .ensures in
-    let E = called c .list .ensures in
-    let few = entries-few E in
-    let long : called c .list .result ≤ length (called c .list .last .1 .1 .1 .1 .1 .1 .0) = omega (arith, E .numbers-kept .long, start .pre .1) in
-    let G = graphOf (args .starts .now) (args .links .now) in
-    let A = anchoredBy (args .anchored .now) in (
-      listed-count G A (small scratch) (last .0) (last .1 .1 .0) (members .count-members .last .1 .1 .0) (holds .0) (holds .1 .1) (members .count-members .ensures) E long,
+    let D = lists (counted (called c)) in
+    let args = entry (filled (counted (called c))) .args in
+    let e = called c .list .ensures in (
+      e .0 ∙ D .counted,
       (
-        lists G A (small scratch) (last .0) (last .1 .1 .0) (members .count-members .last .1 .1 .0) (holds .0) (holds .1 .1) (members .count-members .ensures) E long,
-        (E .levels-kept, E .sizes-kept, E .numbers-kept),
+        e .1 .0 ∙ ap (λ l. front l (args .levels .now)) (D .levels-are),
+        (e .1 .1 .0 ∙ ap (λ l. front l (args .sizes .now)) (D .sizes-are), e .1 .1 .1 ∙ ap (λ l. front l (args .numbers .now)) (D .numbers-are)),
       ),
     )
 
