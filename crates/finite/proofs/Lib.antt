@@ -1,5 +1,6 @@
 pub mod Tests
 pub mod Count
+pub mod Ordered
 pub mod Search
 pub mod Falling
 pub mod Sets

@@ -13,6 +13,7 @@ use lib.Dec.{T, leb, ltb, eqb, leb→le, le→leb, nleb→lt, T-not, not-T, eqb�
 use Rattle.finite.specs.Count.{bit, below, count, In, Distinct, tabulate}
 use Rattle.finite.specs.Search.{any, all, member, firstFrom, first, largest, NoneBelow, rises, ascending}
 use Rattle.finite.proofs.Tests.{and-i, and-l, and-r, or-l, or-r, or-e, nand, split, same, true-of, false-of, of-true, of-false, eqb-of, neqb}
+use Rattle.finite.proofs.Ordered.{ordered-of, ordered-distinct}
 use Rattle.finite.proofs.Count.{bit-yes, bit-no, in-at, at-in, in-append, in-below, count-some, count-cong, count-witness, count-strict, count-none, distinct-below}
 
 -- ---- any and all, over a list
@@ -322,13 +323,7 @@ ascending-tail x xs t = all-below-i (rises xs) (length xs - 1) (λ i h.
     le→leb (suc (getD xs i 0)) (getD xs (i + 1) 0) (rw q at r))
 
 pub ascending-distinct : (xs : List ℕ) → T (ascending xs) → Distinct xs
-ascending-distinct [] t = tt
-ascending-distinct (x ∷ xs) t = (
-  λ i.
-      let r = at-in xs x 0 i in
-      absurd (omega (arith, ascending-lt (x ∷ xs) t 0 (suc (r .0)) (omega arith) (omega arith), r .2)),
-  ascending-distinct xs (ascending-tail x xs t),
-)
+ascending-distinct xs t = ordered-distinct _<_ (λ v h. absurd (omega (arith, h))) xs (ordered-of _<_ xs (ascending-lt xs t))
 
 -- a scan for order: each number is `least` or more, one more than the number before it
 abbrev pub scans : ℕ → List ℕ → Bool
