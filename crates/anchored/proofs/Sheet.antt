@@ -290,3 +290,14 @@ local-iff G L A lev lay = same (isLocal G A lev lay) (isDefined G A lev lay)
     let each = all-below-e (λ v. eqb (lev v) (level G A v) && eqb (lay v) (layer G A v)) (G .size) t in
     local-passes G A lev lay (local-agree G L A lev lay .1 (λ v b.
     (eqb→eq (lev v) (level G A v) (and-l (eqb (lev v) (level G A v)) _ (each v b)), eqb→eq (lay v) (layer G A v) (and-r (eqb (lev v) (level G A v)) _ (each v b))))))
+
+-- a sheet of which no entry is misplaced and no level too high overstates nobody's level, anchored vertices included
+pub nowhere-overstated :
+    (G : Graph) → Simple G → (A : ℕ → Bool) (lev lay : ℕ → ℕ) → ((v : ℕ) → v < G .size → T (not (misplaced G A lev lay v)))
+    → ((v : ℕ) → v < G .size → T (not (tooHigh G A lev lay v))) → (v : ℕ) → v < G .size → lev v ≤ level G A v
+unfolding misplaced tooHigh
+nowhere-overstated G L A lev lay placed low v b = split (A v)
+    (λ a.
+    let m = not-not (eqb (lev v) 65535 && eqb (lay v) 0) (rw (true-of (A v) a) at (placed v b)) in
+    omega (arith, eqb→eq (lev v) 65535 (and-l (eqb (lev v) 65535) _ m), level-anchored G L A v a))
+    (not-overstated G L A lev lay (λ w c a. omega (arith, nleb→lt (suc (support G A lev lay w (lev w) 0)) (lev w) (nand (not (A w)) _ (low w c) a))) v b)

@@ -132,7 +132,7 @@ module _ (x : Refusal) (room : ℕ) where
       go (Departs line) q e = told 18 line tt e
 
 module _ (x : Refusal) (t : List ℕ) (room : ℕ) where
-  -- no other number: never 1, 4, 9, 10, 13, 14 or 16
+  -- no other number: never 1, 4, 9, 10, 13, 14, 16, 19, 20 or 21
   pub refused-listed : answerOf t room ≡ Refused x → T (ofTexts (x .number))
   refused-listed e = and-l (ofTexts (x .number)) _ (answer-listed x room t e)
 

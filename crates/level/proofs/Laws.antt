@@ -1,74 +1,198 @@
--- What the acceptance of a sheet promises, in the words of the theorems. Assumes nothing.
-use mathlib.Core.Path.{_≡_}
-use mathlib.Core.Bool.{Bool, cond, _&&_}
+-- What the answer of the sheet check tells: exactly the defined sheet is accepted, and a sheet accepted, or refused with 20 or 21,
+-- overstates nobody's level. Assumes nothing.
+use mathlib.Core.Path.{_≡_, refl, ap, _∙_}
+use mathlib.Core.Logic.{_↔_}
+use mathlib.Core.Bool.{Bool, true, false, not, cond, _||_}
 use mathlib.Core.List.{List}
-use Prim.Native.Nat.{ℕ}
+use Prim.Native.Nat.{ℕ, _≤_, _<_}
+use native.Mathlib.Omega.{arith}
 use lib.ListN.{length, getD}
-use lib.Dec.{eqb, eqb→eq}
-use borrow.Author.Tests.{eq-eqb, ne-eqb, eqb-true, not-false}
-use Rattle.finite.specs.Count.{below}
-use Rattle.finite.specs.Search.{all}
-use Rattle.finite.proofs.Tests.{and-l, and-r}
-use Rattle.finite.proofs.Search.{all-below-e, all-below-yes}
-use Rattle.table.specs.Table.{vertices, refused, SoundTable}
-use Rattle.table.specs.declared.Checked.the-variants.{Sound}
-use Rattle.table.proofs.Laws.{went-on}
-use Rattle.anchored.specs.Core.{level, layer}
-use Rattle.anchored.specs.Sheet.{isDefined}
-use Rattle.anchored.proofs.Sheet.{local-iff}
+use lib.Dec.{T, T-not, ltb, eqb, eqb→eq}
+use borrow.Author.Tests.{eq-eqb, ne-eqb, eqb-true, ltb-false, not-false}
+use Rattle.finite.specs.Search.{first, NoneBelow}
+use Rattle.finite.proofs.Tests.{or-e, not-or, or-not, false-of, of-false}
+use Rattle.finite.proofs.Search.{all-below-i, all-below-e}
+use Rattle.table.specs.Table.{vertices, refused, numberOf, refuse, SoundTable}
+use Rattle.table.specs.declared.Checked.{Checked}
+use Rattle.table.specs.declared.Checked.the-variants.{Sound, Refused}
+use Rattle.table.proofs.Laws.{went-on, went-past, nothing, pass}
+use Rattle.table.proofs.Numbers.{Between, between-sound, between-next, between-found, between-past, zero-sound}
+use Rattle.anchored.specs.Core.{level}
+use Rattle.anchored.specs.Sheet.{misplaced, tooHigh, tooLow, tooLate, fits, isLocal}
+use Rattle.anchored.proofs.Sheet.{Local, local-agree, passes-local, local-passes, nowhere-overstated}
 use Rattle.shells.specs.Input.{graphOf, anchoredBy, admitOf, Admitted}
-use Rattle.shells.proofs.Laws.{simple, went-through, admitted}
-use Rattle.level.specs.SheetCheck.{sheetOf, checkSheetOf, localOf, Accepted}
-use Rattle.level.proofs.Answers.{passed}
+use Rattle.shells.proofs.Laws.{simple, went-through, admitted, between-admit}
+use Rattle.level.specs.SheetCheck.{sheetOf, checkSheetOf, Accepted, bounds, Tells}
+use Rattle.level.specs.Faults.{faultOf, Lowest}
+use Rattle.level.proofs.Faults.{answerOf, told-none, told-more}
+
+-- past a refusal whose number bounds nothing
+bounded-on : (b : Bool) (k p : ℕ) (rest : Checked) → T (not (bounds k)) → T (bounds (numberOf (cond b (refused k p) rest))) → (b ≡ false) × T (bounds (numberOf rest))
+bounded-on true k p rest other t = absurd (T-not (bounds k) other t)
+bounded-on false k p rest other t = (refl, t)
+
+-- the same for a search
+bounded-past : (k : ℕ) (p : ℕ → Bool) (n : ℕ) (rest : Checked) → T (not (bounds k)) → T (bounds (numberOf (refuse k p n rest))) → NoneBelow p n × T (bounds (numberOf rest))
+bounded-past k p n rest other t =
+    let r = bounded-on (ltb (first p n) n) k (first p n) rest other t in
+    (nothing p n refl (ltb-false (first p n) n (r .0)), r .1)
+
+-- the numbers 1 to 10 bound nothing
+low-unbounded : (k : ℕ) → 1 ≤ k → k ≤ 10 → T (bounds k) → ⊥
+low-unbounded k from upto t = or-e (eqb k 0 || eqb k 20) (eqb k 21) t
+    (λ u. or-e (eqb k 0) (eqb k 20) u (λ w. omega (arith, eqb→eq k 0 w)) (λ w. omega (arith, eqb→eq k 20 w)))
+    (λ u. omega (arith, eqb→eq k 21 u))
 
 module _ (s l a lev lay : List ℕ) where
+  abbrev n : ℕ
+  n = vertices s
+
   abbrev levels : ℕ → ℕ
-  levels = level (graphOf s l) (anchoredBy a)
+  levels v = getD lev v 0
 
   abbrev layers : ℕ → ℕ
-  layers = layer (graphOf s l) (anchoredBy a)
+  layers v = getD lay v 0
 
-  abbrev agrees : ℕ → Bool
-  agrees v = eqb (getD lev v 0) (levels v) && eqb (getD lay v 0) (layers v)
+  -- the four tests
+  abbrev out : ℕ → Bool
+  out = misplaced (graphOf s l) (anchoredBy a) levels layers
 
-  -- what an accepted sheet is
-  pub accepted : sheetOf s l a lev lay ≡ Sound → Accepted s l a lev lay
-  unfolding sheetOf isDefined
-  accepted e =
-      let first-half = went-on _ _ _ _ e in
-      let second-half = went-on _ _ _ _ (first-half .1) in
-      let each = all-below-e agrees (vertices s) (passed (all agrees (below (vertices s))) _ Sound (second-half .1) .0) in
-      record {
-        levels-long = eqb-true (length lev) (vertices s) (not-false (eqb (length lev) (vertices s)) (first-half .0));
-        layers-long = eqb-true (length lay) (vertices s) (not-false (eqb (length lay) (vertices s)) (second-half .0));
-        levels-hold = λ v h. eqb→eq (getD lev v 0) (levels v) (and-l (eqb (getD lev v 0) (levels v)) _ (each v h));
-        layers-hold = λ v h. eqb→eq (getD lay v 0) (layers v) (and-r (eqb (getD lev v 0) (levels v)) _ (each v h));
-      }
+  abbrev high : ℕ → Bool
+  high = tooHigh (graphOf s l) (anchoredBy a) levels layers
+
+  abbrev low : ℕ → Bool
+  low = tooLow (graphOf s l) (anchoredBy a) levels layers
+
+  abbrev late : ℕ → Bool
+  late = tooLate (graphOf s l) (anchoredBy a) levels layers
+
+  -- the answer from each of them on
+  abbrev from-late : Checked
+  from-late = refuse 21 late n Sound
+
+  abbrev from-low : Checked
+  from-low = refuse 20 low n from-late
+
+  abbrev from-high : Checked
+  from-high = refuse 19 high n from-low
+
+  abbrev from-out : Checked
+  from-out = refuse 14 out n from-high
+
+  -- ---- the code's answers
 
   -- 13: either half not n long
-  pub wrong-levels : (length lev ≡ vertices s → ⊥) → sheetOf s l a lev lay ≡ refused 13 0
+  pub wrong-levels : (length lev ≡ n → ⊥) → sheetOf s l a lev lay ≡ refused 13 0
   unfolding sheetOf
-  wrong-levels other = rw (sheetOf, ne-eqb (length lev) (vertices s) other)
+  wrong-levels other = rw (sheetOf, ne-eqb (length lev) n other)
 
-  pub wrong-layers : length lev ≡ vertices s → (length lay ≡ vertices s → ⊥) → sheetOf s l a lev lay ≡ refused 13 0
+  pub wrong-layers : length lev ≡ n → (length lay ≡ n → ⊥) → sheetOf s l a lev lay ≡ refused 13 0
   unfolding sheetOf
-  wrong-layers levels-long other = rw (sheetOf, eq-eqb (length lev) (vertices s) levels-long, ne-eqb (length lay) (vertices s) other)
+  wrong-layers levels-long other = rw (sheetOf, eq-eqb (length lev) n levels-long, ne-eqb (length lay) n other)
 
-  -- 14: of a sound table the local test decides
-  pub tested : SoundTable s l → length lev ≡ vertices s → length lay ≡ vertices s → sheetOf s l a lev lay ≡ cond (localOf s l a lev lay) Sound (refused 14 0)
+  entries-decide : length lev ≡ n → length lay ≡ n → sheetOf s l a lev lay ≡ from-out
   unfolding sheetOf
-  tested table levels-long layers-long =
-      let decides = local-iff (graphOf s l) (simple s l table) (anchoredBy a) (λ v. getD lev v 0) (λ v. getD lay v 0) in
-      rw (sheetOf, eq-eqb (length lev) (vertices s) levels-long, eq-eqb (length lay) (vertices s) layers-long, ← decides)
+  entries-decide levels-long layers-long = rw (sheetOf, eq-eqb (length lev) n levels-long, eq-eqb (length lay) n layers-long)
 
-  -- the defined sheet is accepted
-  pub accepts : Accepted s l a lev lay → sheetOf s l a lev lay ≡ Sound
-  unfolding sheetOf isDefined
-  accepts h =
-      let each = all-below-yes agrees (vertices s) (λ v b. rw (eq-eqb (getD lev v 0) (levels v) (h .levels-hold v b), eq-eqb (getD lay v 0) (layers v) (h .layers-hold v b))) in
-      rw (sheetOf, eq-eqb (length lev) (vertices s) (h .levels-long), eq-eqb (length lay) (vertices s) (h .layers-long), isDefined, each)
+  -- else the lowest fault decides
+  pub faults-decide : length lev ≡ n → length lay ≡ n → (number place : ℕ) → Lowest (faultOf s l a lev lay) n number place → sheetOf s l a lev lay ≡ answerOf number place
+  faults-decide levels-long layers-long number place lowest =
+      let late-told = told-more 21 65535 late _ n _ (omega arith) (told-none n) in
+      let low-told = told-more 20 21 low _ n _ (omega arith) late-told in
+      let high-told = told-more 19 20 high _ n _ (omega arith) low-told in
+      let all-told = told-more 14 19 out _ n _ (omega arith) high-told in
+      entries-decide levels-long layers-long ∙ all-told .decides number place lowest
 
-  -- a sheet that the check accepts is the defined one of an admitted input
-  pub checked : checkSheetOf s l a lev lay ≡ Sound → Admitted s l a × Accepted s l a lev lay
+  -- ---- acceptance
+
+  -- a sheet that passes the four tests is exactly the defined one
+  pub accepted : SoundTable s l → sheetOf s l a lev lay ≡ Sound → Accepted s l a lev lay
+  unfolding sheetOf isLocal fits
+  accepted table e =
+      let first-half = went-on _ _ _ _ e in
+      let second-half = went-on _ _ _ _ (first-half .1) in
+      let past-out = went-past 14 out n from-high (second-half .1) in
+      let past-high = went-past 19 high n from-low (past-out .1) in
+      let past-low = went-past 20 low n from-late (past-high .1) in
+      let past-late = went-past 21 late n Sound (past-low .1) in
+      let passes : T (isLocal (graphOf s l) (anchoredBy a) levels layers) = all-below-i _ n (λ v h.
+      or-not (out v || high v || low v) (late v)
+      (or-not (out v || high v) (low v)
+      (or-not (out v) (high v) (of-false (out v) (past-out .0 v h)) (of-false (high v) (past-high .0 v h)))
+      (of-false (low v) (past-low .0 v h)))
+      (of-false (late v) (past-late .0 v h))) in
+      let each = local-agree (graphOf s l) (simple s l table) (anchoredBy a) levels layers .0 (passes-local (graphOf s l) (anchoredBy a) levels layers passes) in
+      record {
+        levels-long = eqb-true (length lev) n (not-false (eqb (length lev) n) (first-half .0));
+        layers-long = eqb-true (length lay) n (not-false (eqb (length lay) n) (second-half .0));
+        levels-hold = λ v h. each v h .0;
+        layers-hold = λ v h. each v h .1;
+      }
+
+  pub accepts : SoundTable s l → Accepted s l a lev lay → sheetOf s l a lev lay ≡ Sound
+  unfolding isLocal fits
+  accepts table h =
+      let agrees = local-agree (graphOf s l) (simple s l table) (anchoredBy a) levels layers .1 (λ v b. (h .levels-hold v b, h .layers-hold v b)) in
+      let each = all-below-e _ n (local-passes (graphOf s l) (anchoredBy a) levels layers agrees) in
+      let not-late : (v : ℕ) → v < n → T (not (out v || high v || low v)) × T (not (late v)) = λ v b. not-or (out v || high v || low v) (late v) (each v b) in
+      let not-low : (v : ℕ) → v < n → T (not (out v || high v)) × T (not (low v)) = λ v b. not-or (out v || high v) (low v) (not-late v b .0) in
+      let not-high : (v : ℕ) → v < n → T (not (out v)) × T (not (high v)) = λ v b. not-or (out v) (high v) (not-low v b .0) in
+      entries-decide (h .levels-long) (h .layers-long)
+      ∙ pass 14 out n from-high (λ v b. false-of (out v) (not-high v b .0))
+      ∙ pass 19 high n from-low (λ v b. false-of (high v) (not-high v b .1))
+      ∙ pass 20 low n from-late (λ v b. false-of (low v) (not-low v b .1))
+      ∙ pass 21 late n Sound (λ v b. false-of (late v) (not-late v b .1))
+
+  -- ---- the numbers
+
+  between-sheet : Between 1 21 (sheetOf s l a lev lay)
+  unfolding sheetOf
+  between-sheet =
+      between-next 1 21 (not (eqb (length lev) n)) 13 0 _ (omega arith) (omega arith)
+      (between-next 1 21 (not (eqb (length lay) n)) 13 0 from-out (omega arith) (omega arith)
+      (between-found 1 21 14 out n from-high (omega arith) (omega arith)
+      (between-found 1 21 19 high n from-low (omega arith) (omega arith)
+      (between-found 1 21 20 low n from-late (omega arith) (omega arith)
+      (between-found 1 21 21 late n Sound (omega arith) (omega arith) (between-sound 1 21))))))
+
+  between-checked : Between 1 21 (checkSheetOf s l a lev lay)
   unfolding checkSheetOf
-  checked e = let r = went-through (admitOf s l a) _ e in (admitted s l a (r .0), accepted (r .1))
+  between-checked = between-past 1 21 (admitOf s l a) (sheetOf s l a lev lay) (between-admit s l a 1 21 (omega arith) (omega arith)) between-sheet
+
+  -- ---- what an answer tells
+
+  -- exactly the defined sheet of an admitted input is accepted
+  check-defined : (numberOf (checkSheetOf s l a lev lay) ≡ 0) ↔ ((admitOf s l a ≡ Sound) × Accepted s l a lev lay)
+  unfolding checkSheetOf
+  check-defined = (
+    λ e.
+        let r = went-through (admitOf s l a) (sheetOf s l a lev lay) (zero-sound (checkSheetOf s l a lev lay) 21 between-checked e) in
+        (r .0, accepted (admitted s l a (r .0) .table) (r .1)),
+    λ h.
+        let e : checkSheetOf s l a lev lay ≡ Sound = rw (checkSheetOf, h .0) (accepts (admitted s l a (h .0) .table) (h .1)) in
+        ap numberOf e,
+  )
+
+  -- a sheet accepted, or refused with 20 or 21, has no entry misplaced and no level too high
+  past-high : T (bounds (numberOf (sheetOf s l a lev lay))) → NoneBelow out n × NoneBelow high n
+  unfolding sheetOf
+  past-high t =
+      let first-half = bounded-on (not (eqb (length lev) n)) 13 0 _ tt t in
+      let second-half = bounded-on (not (eqb (length lay) n)) 13 0 from-out tt (first-half .1) in
+      let past-out = bounded-past 14 out n from-high tt (second-half .1) in
+      (past-out .0, bounded-past 19 high n from-low tt (past-out .1) .0)
+
+  -- so it overstates nobody's level
+  overstates-nobody : T (bounds (numberOf (checkSheetOf s l a lev lay))) → (v : ℕ) → v < n → getD lev v 0 ≤ level (graphOf s l) (anchoredBy a) v
+  unfolding checkSheetOf
+  overstates-nobody = go (admitOf s l a) refl
+    where
+      go : (c : Checked) → admitOf s l a ≡ c → T (bounds (numberOf (elim c [ Sound ↦ sheetOf s l a lev lay | Refused r ↦ Refused r ]))) → (v : ℕ) → v < n → getD lev v 0 ≤ level (graphOf s l) (anchoredBy a) v
+      go Sound e t =
+          let tests = past-high t in
+          nowhere-overstated (graphOf s l) (simple s l (admitted s l a e .table)) (anchoredBy a) levels layers
+          (λ v h. of-false (out v) (tests .0 v h)) (λ v h. of-false (high v) (tests .1 v h))
+      go (Refused r) e t = let range = between-admit s l a 1 10 (omega arith) (omega arith) r e in absurd (low-unbounded (r .number) (range .0) (range .1) t)
+
+  pub check-tells : Tells s l a lev lay (numberOf (checkSheetOf s l a lev lay))
+  check-tells = record { defined = check-defined; bounded = overstates-nobody }

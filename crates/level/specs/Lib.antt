@@ -1,2 +1,4 @@
 pub mod SheetCheck
+pub mod Faults
 pub mod Answers
+pub mod Cases

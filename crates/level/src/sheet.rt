@@ -1,12 +1,25 @@
-// The check of a level sheet: accepted exactly when it is the defined one, by three local counts at each vertex.
+// The check of a level sheet: four tests of each entry, by three local counts. One pass finds the lowest number of a test that some
+// entry fails, and the lowest vertex that fails it.
 ghost use mathlib.Core.Path.{_≡_};
+ghost use mathlib.Core.Bool.{not, cond, _&&_};
 ghost use Prim.Native.Nat.{ℕ, _-_, _<_};
 ghost use lib.ListN.{length};
+ghost use lib.Dec.{eqb};
 ghost use Rattle.finite.specs.Count.{count, In};
-ghost use Rattle.table.specs.Table.{vertices};
+ghost use Rattle.table.specs.Table.{vertices, numberOf};
 ghost use Rattle.shells.specs.Input.{Admitted};
-ghost use Rattle.level.specs.SheetCheck.{HasRow, standsAt, fitsOf, localOf, sheetOf, checkSheetOf};
+ghost use Rattle.level.specs.SheetCheck.{sheetOf, checkSheetOf, Tells};
+ghost use Rattle.level.specs.Faults.{HasRow, standsAt, faultOf, Lowest};
 use shells::pair::Pair;
+
+// In place of a number, where no test fails: above all of them.
+const NONE: u16 = 65535;
+
+// The number of a test that fails, and the vertex whose entry fails it.
+struct Fault {
+    number: u16,
+    place: usize,
+}
 
 // Of a vertex with pair (k, l): how many neighbors are anchored, or at or above another pair.
 struct Support {
@@ -62,28 +75,39 @@ fn count_support(
     }
 }
 
-// Whether the entry of v passes the local test.
-fn fits_at(
+// Whether an entry is out of place: of an anchored vertex any but 65,535 and 0, of another one a layer 0.
+fn is_misplaced(anchored: bool, level: u16, layer: u16) -> bool
+    ensures { λ r. ⌜ r ≡ cond anchored (not (eqb level 65535 && eqb layer 0)) (eqb layer 0) ⌝ }
+{
+    if anchored {
+        return level != 65535 || layer != 0;
+    }
+    layer == 0
+}
+
+// The lowest number of a test that the entry of v fails, or `NONE`.
+fn fault_at(
     starts: &[u16],
     links: &[u16],
     anchored: &[u8],
     levels: &[u16],
     layers: &[u16],
     v: usize,
-) -> bool
+) -> u16
     requires { ⌜ Admitted (now starts) (now links) (now anchored) ⌝ }
     requires { ⌜ length (now levels) ≡ vertices (now starts) ⌝ }
     requires { ⌜ length (now layers) ≡ vertices (now starts) ⌝ }
     requires { ⌜ v < vertices (now starts) ⌝ }
-    ensures { λ r. ⌜ r ≡ fitsOf (now (starts .entry)) (now (links .entry)) (now (anchored .entry)) (now (levels .entry)) (now (layers .entry)) v ⌝ }
+    ensures { λ r. ⌜ r ≡ faultOf (now (starts .entry)) (now (links .entry)) (now (anchored .entry)) (now (levels .entry)) (now (layers .entry)) v ⌝ }
 {
     let level = levels[v];
     let layer = layers[v];
-    if anchored[v] == 1 {
-        return level == 65535 && layer == 0;
+    let is_anchored = anchored[v] == 1;
+    if is_misplaced(is_anchored, level, layer) {
+        return 14;
     }
-    if layer == 0 {
-        return false;
+    if is_anchored {
+        return NONE;
     }
     let support = count_support(
         table::neighbors(starts, links, v),
@@ -94,33 +118,46 @@ fn fits_at(
     );
     let k = level as usize;
     if support.level < k {
-        return false;
+        return 19;
     }
     if k < support.pair {
-        return false;
+        return 20;
     }
-    layer == 1 || k < support.before
+    if 1 < layer && support.before <= k {
+        return 21;
+    }
+    NONE
 }
 
-// Whether every entry passes the local test.
-fn is_local(starts: &[u16], links: &[u16], anchored: &[u8], levels: &[u16], layers: &[u16]) -> bool
+// The lowest number of a test that some entry fails, and the lowest vertex that fails it; `NONE` where none fails.
+fn lowest_fault(
+    starts: &[u16],
+    links: &[u16],
+    anchored: &[u8],
+    levels: &[u16],
+    layers: &[u16],
+) -> Fault
     requires { ⌜ Admitted (now starts) (now links) (now anchored) ⌝ }
     requires { ⌜ length (now levels) ≡ vertices (now starts) ⌝ }
     requires { ⌜ length (now layers) ≡ vertices (now starts) ⌝ }
-    ensures { λ r. ⌜ r ≡ localOf (now (starts .entry)) (now (links .entry)) (now (anchored .entry)) (now (levels .entry)) (now (layers .entry)) ⌝ }
+    ensures { λ r. ⌜ Lowest (faultOf (now (starts .entry)) (now (links .entry)) (now (anchored .entry)) (now (levels .entry)) (now (layers .entry))) (vertices (now (starts .entry))) (r .number) (r .place) ⌝ }
 {
     let n = starts.len() - 1;
+    let mut number = NONE;
+    let mut place: usize = 0;
     let mut v: usize = 0;
     while v < n {
-        if !fits_at(starts, links, anchored, levels, layers, v) {
-            return false;
+        let own = fault_at(starts, links, anchored, levels, layers, v);
+        if own < number {
+            number = own;
+            place = v;
         }
         v += 1;
     }
-    true
+    Fault { number, place }
 }
 
-// Refusals 13 and 14 of an admitted input, or `Sound`.
+// Refusals 13, 14, 19, 20 and 21 of an admitted input, or `Sound`.
 pub fn test_sheet(
     starts: &[u16],
     links: &[u16],
@@ -138,13 +175,14 @@ pub fn test_sheet(
     if layers.len() != n {
         return table::refused(13, 0);
     }
-    if is_local(starts, links, anchored, levels, layers) {
+    let fault = lowest_fault(starts, links, anchored, levels, layers);
+    if fault.number == NONE {
         return table::Checked::Sound;
     }
-    table::refused(14, 0)
+    table::refused(fault.number, fault.place)
 }
 
-// The check of a level sheet.
+// The check of a level sheet. `tells` says what its answer tells of the sheet.
 pub fn check_sheet(
     starts: &[u16],
     links: &[u16],
@@ -152,7 +190,8 @@ pub fn check_sheet(
     levels: &[u16],
     layers: &[u16],
 ) -> table::Checked
-    ensures { λ r. ⌜ r ≡ checkSheetOf (now (starts .entry)) (now (links .entry)) (now (anchored .entry)) (now (levels .entry)) (now (layers .entry)) ⌝ }
+    ensures answer { λ r. ⌜ r ≡ checkSheetOf (now (starts .entry)) (now (links .entry)) (now (anchored .entry)) (now (levels .entry)) (now (layers .entry)) ⌝ }
+    ensures tells { λ r. ⌜ Tells (now (starts .entry)) (now (links .entry)) (now (anchored .entry)) (now (levels .entry)) (now (layers .entry)) (numberOf r) ⌝ }
 {
     let admitted = shells::input::admit(starts, links, anchored);
     match admitted {

@@ -1,4 +1,4 @@
-// Levels, layers, components; the check of a sheet; the search.
+// Levels, layers, components; the check of a sheet; the search. `tells` is what the number that answers the check tells of the sheet.
 ghost use mathlib.Core.Path.{_≡_};
 ghost use lib.ListN.{length};
 ghost use Rattle.finite.specs.Count.{tabulate};
@@ -6,7 +6,7 @@ ghost use Rattle.table.specs.Table.{vertices};
 ghost use Rattle.anchored.specs.Core.{level, layer};
 ghost use Rattle.anchored.specs.Component.{component};
 ghost use Rattle.shells.specs.Input.{graphOf, anchoredBy};
-ghost use Rattle.level.specs.SheetCheck.{checkSheetOf};
+ghost use Rattle.level.specs.SheetCheck.{checkSheetOf, Tells};
 ghost use Rattle.level.specs.Answers.{workOf, written};
 ghost use Rattle.components.specs.Answers.{listOf, numbersOf, levelsOf, sizesOf, listed};
 ghost use Rattle.search.specs.Answers.{followersOf, marksOf, marked};
@@ -55,7 +55,8 @@ pub extern "C" fn planner_check_sheet(
     levels: &[u16],
     layers: &[u16],
 ) -> Answer
-    ensures { λ r. ⌜ r ≡ checkedAs (checkSheetOf (now (starts .entry)) (now (links .entry)) (now (anchored .entry)) (now (levels .entry)) (now (layers .entry))) ⌝ }
+    ensures answer { λ r. ⌜ r ≡ checkedAs (checkSheetOf (now (starts .entry)) (now (links .entry)) (now (anchored .entry)) (now (levels .entry)) (now (layers .entry))) ⌝ }
+    ensures tells { λ r. ⌜ Tells (now (starts .entry)) (now (links .entry)) (now (anchored .entry)) (now (levels .entry)) (now (layers .entry)) (r .number) ⌝ }
 {
     numbers::of_checked(level::sheet::check_sheet(starts, links, anchored, levels, layers))
 }

@@ -14,11 +14,11 @@ use Rattle.level.specs.Answers.{past}
 use Rattle.search.specs.declared.operation.Searched.{Searched}
 use Rattle.search.specs.declared.operation.Searched.the-variants.{Found, Refused as SearchRefused}
 
--- 13 and 14, then 15 for x of n or more, 16 for an anchored x; the place of both is x
+-- 13, 14, 19, 20, 21 of the sheet, then 15 for x of n or more, 16 for an anchored x; the place of both is x
 unfoldable pub startOf : List ℕ → List ℕ → List ℕ → List ℕ → List ℕ → ℕ → Checked
 startOf s l a lev lay x = past (sheetOf s l a lev lay) (cond (leb (vertices s) x) (refused 15 x) (cond (anchoredBy a x) (refused 16 x) Sound))
 
--- 1 to 10, then 12 for m places for marks where m is not n, then 13 to 16
+-- 1 to 10, then 12 for m places for marks where m is not n, then sheet and x
 unfoldable pub searchOf : List ℕ → List ℕ → List ℕ → List ℕ → List ℕ → ℕ → ℕ → Checked
 searchOf s l a lev lay x m = past (admitOf s l a) (cond (eqb m (vertices s)) (startOf s l a lev lay x) (refused 12 0))
 

@@ -15,7 +15,7 @@ pub enum Searched {
     Refused(table::Refusal),
 }
 
-// Refusals 13 to 16 of an admitted input, or `Sound`.
+// Refusals 13, 14, 19, 20, 21, 15 and 16 of an admitted input, or `Sound`.
 fn test_start(
     starts: &[u16],
     links: &[u16],

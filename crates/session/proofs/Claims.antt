@@ -118,7 +118,7 @@ module _ (s l given requests : List ℕ) (accepted : admitOf s l given ≡ Sound
         let lev = record-at i .levels in
         let lay = record-at i .layers in
         followers-found s l bytes lev lay x n
-        (search-start s l bytes lev lay x n bytes-admitted refl ∙ start-free s l bytes lev lay x (accepts s l bytes lev lay sheet) b (neqb (getD bytes x 0) 1 free))
+        (search-start s l bytes lev lay x n bytes-admitted refl ∙ start-free s l bytes lev lay x (accepts s l bytes lev lay (given-admitted .table) sheet) b (neqb (getD bytes x 0) 1 free))
 
     count-anchored : (v : ℕ) → v < n → T (set-at i v) → getD (record-at i .followers) v 0 ≡ 65535
     unfolding followerCount

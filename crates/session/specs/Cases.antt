@@ -11,7 +11,7 @@ use Rattle.table.specs.declared.Checked.the-variants.{Sound}
 use Rattle.anchored.specs.Core.{batch, core, level, shell, layer, greater, higher}
 use Rattle.anchored.specs.Component.{joins, around, component, together}
 use Rattle.anchored.specs.Followers.{follows, followers, followerCount, firstStep, onward, candidates, reached, mark}
-use Rattle.anchored.specs.Sheet.{isDefined}
+use Rattle.anchored.specs.Sheet.{misplaced, tooHigh, tooLow, tooLate}
 use Rattle.anchored.specs.Step.{above, undisturbed, seesDisturbed, seesNew, recomputed}
 use Rattle.anchored.specs.Session.{statusOf, rowOf, turn, after}
 use Rattle.shells.specs.Input.{admitOf}
@@ -68,7 +68,7 @@ pub cases :
     × (session chain none (0 ∷ 0 ∷ 3 ∷ 9 ∷ []) ≡ (0 ∷ 16 ∷ 0 ∷ 15 ∷ []) ∷ (0 ∷ 0 ∷ 2 ∷ 0 ∷ []) ∷ (2 ∷ 0 ∷ 1 ∷ 0 ∷ []) ∷ (1 ∷ 0 ∷ 3 ∷ 3 ∷ []) ∷ [])
     × (runOf (chain .starts) (chain .links) none (0 ∷ 0 ∷ 3 ∷ 9 ∷ []) (ended (chain .starts) (chain .links) none (0 ∷ 0 ∷ 3 ∷ 9 ∷ [])) ≡ Sound)
     -- J, and the defined sheet
-    × (checkSheetOf (chain .starts) (chain .links) none (1 ∷ 1 ∷ 1 ∷ 1 ∷ []) (1 ∷ 2 ∷ 3 ∷ 1 ∷ []) ≡ refused 14 0)
+    × (checkSheetOf (chain .starts) (chain .links) none (1 ∷ 1 ∷ 1 ∷ 1 ∷ []) (1 ∷ 2 ∷ 3 ∷ 1 ∷ []) ≡ refused 21 2)
     × (checkSheetOf (chain .starts) (chain .links) none (1 ∷ 1 ∷ 1 ∷ 1 ∷ []) (1 ∷ 2 ∷ 2 ∷ 1 ∷ []) ≡ Sound)
-unfolding tabulate below count any all firstFrom first largest ascending keep having rounds grow pairLe neighbors badStart beyond looped unsorted unreturned checkOf batch core level shell layer greater higher joins around component together follows followers followerCount firstStep onward candidates reached mark isDefined above undisturbed seesDisturbed seesNew recomputed statusOf rowOf turn after admitOf sheetOf checkSheetOf startOf searchOf followersOf admitRun
+unfolding tabulate below count any all firstFrom first largest ascending keep having rounds grow pairLe neighbors badStart beyond looped unsorted unreturned checkOf batch core level shell layer greater higher joins around component together follows followers followerCount firstStep onward candidates reached mark misplaced tooHigh tooLow tooLate above undisturbed seesDisturbed seesNew recomputed statusOf rowOf turn after admitOf sheetOf checkSheetOf startOf searchOf followersOf admitRun
 cases = (refl, refl, refl, refl, refl, refl, refl, refl, refl, refl, refl, refl, refl)

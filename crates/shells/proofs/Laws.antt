@@ -1,8 +1,8 @@
 -- What admission promises, in the words of the theorems. Assumes nothing.
 use mathlib.Core.Path.{_≡_, refl, _∙_}
-use mathlib.Core.Bool.{not}
+use mathlib.Core.Bool.{not, cond}
 use mathlib.Core.List.{List}
-use Prim.Native.Nat.{ℕ, _<_}
+use Prim.Native.Nat.{ℕ, _≤_, _<_}
 use native.Mathlib.Omega.{arith}
 use lib.ListN.{length, getD}
 use lib.Dec.{T, ltb, eqb, not-T, eqb→eq}
@@ -13,6 +13,7 @@ use Rattle.table.specs.declared.Refusal.{Refusal}
 use Rattle.table.specs.declared.Checked.{Checked}
 use Rattle.table.specs.declared.Checked.the-variants.{Sound, Refused}
 use Rattle.table.proofs.Laws.{went-on, went-past, sound, pass}
+use Rattle.table.proofs.Numbers.{Between, between-sound, between-next, between-found, between-past, between-check}
 use Rattle.anchored.specs.Graph.{Simple}
 use Rattle.shells.specs.Input.{graphOf, anchoredBy, admitOf, Admitted}
 
@@ -47,6 +48,16 @@ module _ (s l a : List ℕ) where
         long = omega (arith, eqb-true (length a) (vertices s) (not-false (eqb (length a) (vertices s)) (number .0)));
         bytes = λ v h. ltb-false 1 (getD a v 0) (bytes .0 v h);
       }
+
+  -- its refusals have the numbers 1 to 10
+  pub between-admit : (low high : ℕ) → low ≤ 1 → 10 ≤ high → Between low high (admitOf s l a)
+  unfolding admitOf
+  between-admit low high from upto =
+      let n = vertices s in
+      let bytes = refuse 10 (λ v. ltb 1 (getD a v 0)) n Sound in
+      between-past low high (checkOf s l) (cond (not (eqb (length a) n)) (refused 9 0) bytes) (between-check low high s l from (omega arith))
+      (between-next low high (not (eqb (length a) n)) 9 0 bytes (omega arith) (omega arith)
+      (between-found low high 10 (λ v. ltb 1 (getD a v 0)) n Sound (omega arith) (omega arith) (between-sound low high)))
 
   -- a refusal of the table is handed on
   pub admit-refused : {r : Refusal} → checkOf s l ≡ Refused r → admitOf s l a ≡ Refused r

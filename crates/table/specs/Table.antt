@@ -52,6 +52,11 @@ unreturned s l v = any (λ u. not (member v (neighbors s l u))) (neighbors s l v
 abbrev pub refused : ℕ → ℕ → Checked
 refused k p = Refused (record { number = k; place = p })
 
+-- the number of an answer: 0 where nothing is refused
+abbrev pub numberOf : Checked → ℕ
+numberOf Sound = 0
+numberOf (Refused r) = r .number
+
 -- refusal k at the lowest index below n that passes the test, and else the rest
 abbrev pub refuse : ℕ → (ℕ → Bool) → ℕ → Checked → Checked
 refuse k p n rest = cond (ltb (first p n) n) (refused k (first p n)) rest

@@ -9,6 +9,7 @@ fn main() -> std::io::Result<()> {
     let seeds: Vec<u64> = (1..=5).collect();
     let mut lines = vec![];
     lines.extend(measures::working(&seeds));
+    lines.extend(measures::sheets(&seeds));
     lines.extend(measures::search(&seeds));
     lines.extend(measures::session(&seeds));
     lines.extend(measures::rounds(&seeds));

@@ -127,6 +127,55 @@ pub fn working(seeds: &[u64]) -> Vec<Line> {
     lines.into()
 }
 
+/// The defined sheet of each pool.
+fn worked(pools: &[Pool]) -> Vec<Sheet> {
+    let sheet = |pool: &Pool| {
+        let mut sheet = Sheet::room(pool.size());
+        sheet.work(pool);
+        sheet
+    };
+    pools.iter().map(sheet).collect()
+}
+
+pub fn sheets(seeds: &[u64]) -> Vec<Line> {
+    let check = "sheet check: table check, then every entry, all accepted";
+    let mut lines = [
+        Line::new(check, "the planner's fresh working"),
+        Line::new(check, "plain Rust: the sheet worked out and compared: levels by buckets, layers, no check of the table"),
+        Line::new("sheet check: the last entry refused", check),
+    ];
+    for &seed in seeds {
+        let pools = several(seed);
+        let (sheets, mut wrong, mut again, none) = (worked(&pools), worked(&pools), Sheet::room(1000), vec![false; 1000]);
+        wrong.iter_mut().for_each(|sheet| sheet.layers[999] += 1);
+        let check = |sheets: &[Sheet], accepted: bool| {
+            for (pool, sheet) in pools.iter().zip(sheets) {
+                assert_eq!(planner::check_sheet(input(pool), &sheet.levels, &sheet.layers).is_ok(), accepted);
+            }
+        };
+        let [fresh, theirs, right, refused] = times(
+            21,
+            1,
+            [
+                &mut || pools.iter().for_each(|pool| again.work(pool)),
+                &mut || {
+                    for (pool, sheet) in pools.iter().zip(&sheets) {
+                        let (levels, layers) = quick::levels_and_layers(black_box(plain(pool)), &none);
+                        assert!(levels == sheet.levels && layers == sheet.layers);
+                    }
+                },
+                &mut || check(&sheets, true),
+                &mut || check(&wrong, false),
+            ],
+        )
+        .map(|pass| pass / POOLS as f64);
+        lines[0].times.push((right, fresh));
+        lines[1].times.push((right, theirs));
+        lines[2].times.push((refused, right));
+    }
+    lines.into()
+}
+
 pub fn search(seeds: &[u64]) -> Vec<Line> {
     let alone = "one search without checks: a session of no names, less one fresh working, divided by the vertices";
     let mut lines = [
@@ -137,15 +186,7 @@ pub fn search(seeds: &[u64]) -> Vec<Line> {
     for &seed in seeds {
         let pools = several(seed);
         let (mut marks, mut record, mut again) = (vec![0u8; 1000], Record::room(1000, 0), Sheet::room(1000));
-        let sheets: Vec<Sheet> = pools
-            .iter()
-            .map(|pool| {
-                let mut sheet = Sheet::room(1000);
-                sheet.work(pool);
-                sheet
-            })
-            .collect();
-        let mut counts = vec![];
+        let (sheets, mut counts) = (worked(&pools), vec![]);
         let [fresh, searches, start, cores] = times(
             3,
             1,

@@ -11,6 +11,13 @@ pub struct Refusal {
     pub place: u64,
 }
 
+impl Refusal {
+    /// Whether a level sheet refused so overstates nobody's level.
+    pub fn bounds_levels(self) -> bool {
+        matches!(self.number, 20 | 21)
+    }
+}
+
 impl Answer {
     fn result(self) -> Result<(usize, usize), Refusal> {
         match self.number {
@@ -94,7 +101,8 @@ pub fn list_components(input: Input, levels: &mut [u16], sizes: &mut [u16], numb
     .map(|(count, _)| count)
 }
 
-/// The check of a level sheet.
+/// The check of a level sheet: accepted exactly when it is the defined one. A sheet that is accepted, or refused with 20 or 21,
+/// overstates nobody's level.
 pub fn check_sheet(input: Input, levels: &[u16], layers: &[u16]) -> Result<(), Refusal> {
     let Input { starts, links, anchored } = input;
     unsafe {

@@ -5,42 +5,47 @@ mod shared;
 
 use planner::Refusal;
 use pools::{Pool, Random};
-use reference::{quick, Anchoring, Search, Sheet};
-use shared::{anchor_set, broken, held, input, plain, refusal, small_pools, wrong_lengths, DAMAGES};
-use std::collections::BTreeMap;
+use reference::{quick, Anchoring, Graph, Search, Sheet};
+use shared::{broken, held, input, plain, refusal, small_pools, wrong_lengths, DAMAGES};
+use std::collections::{BTreeMap, BTreeSet};
+
+/// A search from a vertex of a pool, whose graph and defined sheet are worked out.
+type Searching = fn(&Pool, &Graph, &Anchoring, usize) -> Search;
 
 /// What is defined for a sound pool; the sheet is worked out once for all calls.
-struct Defined<'a> {
-    sheet: Sheet,
-    search: Box<dyn Fn(usize) -> Search + 'a>,
+struct Defined {
+    graph: Graph,
+    at: Anchoring,
+    search: Searching,
 }
 
 /// A pool, and what is defined for it or why it is refused.
 struct Case<'a> {
     pool: &'a Pool,
-    defined: Result<Defined<'a>, Refusal>,
+    defined: Result<Defined, Refusal>,
 }
 
 impl Case<'_> {
-    fn naive(pool: &Pool) -> Case<'_> {
+    fn new(pool: &Pool, sheet: impl Fn(&Graph, &[bool]) -> Sheet, search: Searching) -> Case<'_> {
         let admitted = reference::admit(&pool.starts, &pool.links, &pool.anchored).map_err(refusal);
-        let defined = admitted.map(|(graph, set)| {
-            let at = Anchoring::new(&graph, &set);
-            Defined { sheet: at.sheet.clone(), search: Box::new(move |x| reference::search(&graph, &at, x)) }
+        let defined = admitted.map(|(graph, anchored)| {
+            let sheet = sheet(&graph, &anchored);
+            Defined { graph, at: Anchoring { anchored, sheet }, search }
         });
         Case { pool, defined }
     }
 
-    /// A sound pool by the quick working.
+    fn naive(pool: &Pool) -> Case<'_> {
+        Case::new(pool, reference::sheet, |_, graph, at, x| reference::search(graph, at, x))
+    }
+
+    /// By the quick working.
     fn quick(pool: &Pool) -> Case<'_> {
-        let set = anchor_set(pool);
-        let sheet = quick::sheet(plain(pool), &set);
-        let defined = Defined { sheet: sheet.clone(), search: Box::new(move |x| quick::search(plain(pool), &set, &sheet, x)) };
-        Case { pool, defined: Ok(defined) }
+        Case::new(pool, |_, set| quick::sheet(plain(pool), set), |pool, _, at, x| quick::search(plain(pool), &at.anchored, &at.sheet, x))
     }
 
     /// What is defined, where the lent slices have the right length.
-    fn lent(&self, lengths: &[usize]) -> Result<&Defined<'_>, Refusal> {
+    fn lent(&self, lengths: &[usize]) -> Result<&Defined, Refusal> {
         let defined = self.defined.as_ref().map_err(|e| *e)?;
         if lengths.iter().any(|&length| length != self.pool.size()) {
             return Err(Refusal { number: 12, place: 0 });
@@ -51,12 +56,12 @@ impl Case<'_> {
     /// The defined levels and layers, or as many numbers where nothing is defined.
     fn sheet(&self) -> [Vec<u16>; 2] {
         match &self.defined {
-            Ok(Defined { sheet, .. }) => [sheet.level.clone(), sheet.layer.clone()],
+            Ok(Defined { at, .. }) => [at.sheet.level.clone(), at.sheet.layer.clone()],
             Err(_) => [vec![0; self.pool.size()], vec![1; self.pool.size()]],
         }
     }
 
-    /// Sheets other than the given one: a half too short or too long, a number one too low or too high.
+    /// Sheets other than the given one: a half too short or too long, a number one too high or too low, 0, or the greatest.
     fn wrong_sheets(&self) -> impl Iterator<Item = [Vec<u16>; 2]> + '_ {
         let n = self.pool.size();
         (0..2).flat_map(move |half| {
@@ -66,22 +71,45 @@ impl Case<'_> {
                 sheet
             });
             let numbers = (0..n).flat_map(move |v| {
-                [1, u16::MAX].map(|change| {
-                    let mut sheet = self.sheet();
-                    sheet[half][v] = sheet[half][v].wrapping_add(change);
-                    sheet
+                let sheet = self.sheet();
+                wrong_numbers(sheet[half][v]).into_iter().map(move |number| {
+                    let mut wrong = sheet.clone();
+                    wrong[half][v] = number;
+                    wrong
                 })
             });
             lengths.chain(numbers)
         })
     }
+
+    /// The given sheet with up to four numbers changed, so that several tests may fail at once.
+    fn damaged_sheet(&self, random: &mut Random) -> [Vec<u16>; 2] {
+        let mut sheet = self.sheet();
+        for _ in 0..1 + random.below(4) {
+            if let (half, Some(v)) = (random.below(2), random.below(self.pool.size() + 1).checked_sub(1)) {
+                let wrong: Vec<u16> = wrong_numbers(sheet[half][v]).into_iter().collect();
+                sheet[half][v] = wrong[random.below(wrong.len())];
+            }
+        }
+        sheet
+    }
 }
 
-/// How many calls of each operation gave each number, 0 where it accepted; how many component lists have two components of one level,
-/// and how many one before a lower number because of its level; how many vertices the accepted searches marked.
+/// Wrong in each way: one too high or too low, 0, or the greatest.
+fn wrong_numbers(right: u16) -> BTreeSet<u16> {
+    let mut numbers = BTreeSet::from([right.wrapping_add(1), right.wrapping_sub(1), 0, u16::MAX]);
+    numbers.remove(&right);
+    numbers
+}
+
+/// How many calls of each operation gave each number, 0 where it accepted; of the sheets refused with each number, how many have a place
+/// other than 0, and how many a level above the defined one; how many component lists have two components of one level, and how many
+/// one before a lower number because of its level; how many vertices the accepted searches marked.
 #[derive(Default, PartialEq, Debug)]
 struct Compared {
     answers: BTreeMap<(&'static str, u64), usize>,
+    sheets_placed: BTreeMap<u64, usize>,
+    overstating: BTreeMap<u64, usize>,
     levels_tie: usize,
     levels_decide: usize,
     lifted: usize,
@@ -115,7 +143,7 @@ impl Compared {
         let mut lent = before.clone();
         let [levels, layers, components] = &mut lent;
         let answer = planner::work(input(case.pool), levels, layers, components);
-        let expected = case.lent(&lengths).map(|Defined { sheet: Sheet { level, layer, component }, .. }| [level, layer, component]);
+        let expected = case.lent(&lengths).map(|Defined { at, .. }| [&at.sheet.level, &at.sheet.layer, &at.sheet.component]);
         assert_eq!(answer, expected.map(|_| ()), "{:?} {lengths:?}", case.pool);
         assert_eq!(lent.each_ref(), expected.unwrap_or(before.each_ref()), "{:?} {lengths:?}", case.pool);
         self.note("work", &answer);
@@ -126,7 +154,7 @@ impl Compared {
         let mut lent = before.clone();
         let [levels, sizes, numbers] = &mut lent;
         let answer = planner::list_components(input(case.pool), levels, sizes, numbers);
-        let list = case.lent(&lengths).map(|defined| defined.sheet.components());
+        let list = case.lent(&lengths).map(|defined| defined.at.sheet.components());
         let mut expected = before;
         for (i, &(level, size, number)) in list.iter().flatten().enumerate() {
             (expected[0][i], expected[1][i], expected[2][i]) = (level, size, number);
@@ -139,19 +167,35 @@ impl Compared {
         self.levels_decide += entries.windows(2).any(|pair| pair[0].2 > pair[1].2) as usize;
     }
 
-    fn check_sheet(&mut self, case: &Case, [levels, layers]: &[Vec<u16>; 2]) {
-        let expected = case.lent(&[]).and_then(|defined| defined.sheet.check(levels, layers).map_err(refusal));
-        assert_eq!(planner::check_sheet(input(case.pool), levels, layers), expected, "{:?} {levels:?} {layers:?}", case.pool);
-        self.note("check_sheet", &expected);
+    /// The answer is that of the naive tests; and of a sound pool the defined sheet alone is accepted, and no sheet that is accepted, or
+    /// refused with 20 or 21, has a level above the defined one.
+    fn check_sheet(&mut self, case: &Case, sheet: &[Vec<u16>; 2]) -> Result<(), Refusal> {
+        let [levels, layers] = sheet;
+        let tests = |Defined { graph, at, .. }: &Defined| reference::check_sheet(graph, &at.anchored, levels, layers).map_err(refusal);
+        let answer = planner::check_sheet(input(case.pool), levels, layers);
+        assert_eq!(answer, case.lent(&[]).and_then(tests), "{:?} {sheet:?}", case.pool);
+        self.note("check_sheet", &answer);
+        if let Err(Refusal { number, place: 1.. }) = answer {
+            *self.sheets_placed.entry(number).or_default() += 1;
+        }
+        if let Ok(Defined { at: Anchoring { sheet: right, .. }, .. }) = &case.defined {
+            assert_eq!(answer.is_ok(), *levels == right.level && *layers == right.layer, "{:?} {sheet:?}", case.pool);
+            if levels.iter().zip(&right.level).any(|(told, level)| told > level) {
+                assert!(answer.is_err_and(|e| !e.bounds_levels()), "{:?} {sheet:?}", case.pool);
+                *self.overstating.entry(answer.unwrap_err().number).or_default() += 1;
+            }
+        }
+        answer
     }
 
-    fn followers(&mut self, case: &Case, [levels, layers]: &[Vec<u16>; 2], x: usize, length: usize) {
+    /// The search from x, with room for so many marks, on a sheet whose check gives that answer.
+    fn followers(&mut self, case: &Case, [levels, layers]: &[Vec<u16>; 2], checked: Result<(), Refusal>, x: usize, length: usize) {
         let expected = case.lent(&[length]).and_then(|defined| {
-            defined.sheet.check(levels, layers).map_err(refusal)?;
+            checked?;
             match case.pool.anchored.get(x) {
                 None => Err(Refusal { number: 15, place: x as u64 }),
                 Some(1) => Err(Refusal { number: 16, place: x as u64 }),
-                Some(_) => Ok((defined.search)(x)),
+                Some(_) => Ok((defined.search)(case.pool, &defined.graph, &defined.at, x)),
             }
         });
         let before: Vec<u8> = (0..length).map(|i| 100 + i as u8 % 100).collect();
@@ -172,9 +216,9 @@ impl Compared {
         self.check(case);
         self.work(case, [n; 3]);
         self.list_components(case, [n; 3]);
-        self.check_sheet(case, &sheet);
+        let checked = self.check_sheet(case, &sheet);
         for x in starts {
-            self.followers(case, &sheet, x, n);
+            self.followers(case, &sheet, checked, x, n);
         }
     }
 
@@ -189,16 +233,21 @@ impl Compared {
                 self.list_components(case, lengths);
             }
             // 12 comes before 13
-            for sheet in [case.sheet(), [vec![], vec![0]]] {
-                self.followers(case, &sheet, 0, length);
+            let short = Err(Refusal { number: 13, place: 0 });
+            for (sheet, checked) in [(case.sheet(), Ok(())), ([vec![], vec![0]], short)] {
+                self.followers(case, &sheet, checked, 0, length);
             }
         }
         for sheet in case.wrong_sheets() {
-            self.check_sheet(case, &sheet);
-            // 13 and 14 come before 15
-            for x in [0, n] {
-                self.followers(case, &sheet, x, n);
-            }
+            self.wrong_sheet(case, &sheet);
+        }
+    }
+
+    fn wrong_sheet(&mut self, case: &Case, sheet: &[Vec<u16>; 2]) {
+        let checked = self.check_sheet(case, sheet);
+        // the sheet comes before 15 and 16
+        for x in [0, case.pool.size()] {
+            self.followers(case, sheet, checked, x, case.pool.size());
         }
     }
 
@@ -207,6 +256,11 @@ impl Compared {
         self.wrong(case);
     }
 }
+
+/// Of the defined sheets of all graphs of up to 5 vertices, with one number wrong in each way: how many are refused with each number,
+/// and of these how many at a place other than 0; all that overstate are refused with 19. The figures were counted apart from this test.
+const WRONG_ENTRIES: [(u64, usize, usize); 4] = [(14, 420_365, 335_700), (19, 232_950, 181_905), (20, 109_256, 86_652), (21, 141_850, 113_270)];
+const OVERSTATING: [(u64, usize); 1] = [(19, 168_146)];
 
 #[test]
 fn all_small_graphs() {
@@ -231,19 +285,20 @@ fn all_small_graphs() {
     assert!(0 < right.lifted && right.lifted < right.reached);
     assert!(0 < right.levels_tie && 0 < right.levels_decide);
 
-    // too short and too long, but where there are no vertices only too long; too low and too high for each vertex, free or anchored
-    let (lengths, numbers) = (2 * pools - 1, 2 * 2 * free);
+    // too short and too long, but where there are no vertices only too long
+    let lengths = 2 * pools - 1;
     let expected = [
         (("work", 12), 3 * lengths),
         (("list_components", 12), 3 * lengths),
         (("followers", 12), 2 * lengths),
         // in either half of the sheet; two searches with each sheet
         (("check_sheet", 13), 2 * lengths),
-        (("check_sheet", 14), 2 * numbers),
         (("followers", 13), 2 * 2 * lengths),
-        (("followers", 14), 2 * 2 * numbers),
     ];
-    assert_eq!(wrong.answers, expected.into());
+    let entries = WRONG_ENTRIES.into_iter().flat_map(|(number, count, _)| [(("check_sheet", number), count), (("followers", number), 2 * count)]);
+    assert_eq!(wrong.answers, expected.into_iter().chain(entries).collect());
+    assert_eq!(wrong.sheets_placed, WRONG_ENTRIES.map(|(number, _, placed)| (number, placed)).into());
+    assert_eq!(wrong.overstating, OVERSTATING.into());
     assert_eq!(damaged.calls("check"), pools);
     assert!(DAMAGES.into_iter().all(|number| damaged.met(number)));
 
@@ -255,18 +310,73 @@ fn all_small_graphs() {
 
 #[test]
 fn random_graphs() {
-    let (mut sound, mut damaged, mut random) = (Compared::default(), Compared::default(), Random(2463534242));
+    let (mut sound, mut several, mut damaged) = (Compared::default(), Compared::default(), Compared::default());
+    let mut random = Random(2463534242);
     let count = if pools::long() { 200000 } else { 20000 };
     for i in 0..count {
         let pool = Pool::random_small(&mut random, if i % 20 == 0 { 40 } else { 12 });
-        sound.right_and_wrong(&Case::naive(&pool), 0..=pool.size());
+        let case = Case::naive(&pool);
+        sound.right_and_wrong(&case, 0..=pool.size());
+        for _ in 0..10 {
+            several.wrong_sheet(&case, &case.damaged_sheet(&mut random));
+        }
         let pool = pool.damaged(&mut random);
         damaged.right_and_wrong(&Case::naive(&pool), 0..=pool.size());
     }
     println!("{count} random graphs, each also damaged: {sound:?}");
     assert_eq!((sound.answers[&("check", 0)], damaged.calls("check")), (count, count));
-    assert!([0, 12, 13, 14, 15, 16].into_iter().all(|number| sound.met(number)));
+    assert!([0, 12, 13, 14, 15, 16, 19, 20, 21].into_iter().all(|number| sound.met(number)));
+    println!("with several numbers of the sheet wrong: {several:?}");
+    assert_eq!(several.sheets_placed.keys().copied().collect::<Vec<_>>(), [14, 19, 20, 21]);
+    assert_eq!(several.overstating.keys().copied().collect::<Vec<_>>(), [14, 19]);
     assert!(DAMAGES.into_iter().all(|number| damaged.met(number)));
+}
+
+/// Sheets kept from before a change: one more vertex is anchored, its own entry put right, or one edge is added or dropped.
+#[test]
+fn stale_sheets() {
+    let (mut anchored, mut joined) = (Compared::default(), Compared::default());
+    for pool in small_pools(4) {
+        let kept = Case::naive(&pool).sheet();
+        for x in (0..pool.size()).filter(|&x| pool.anchored[x] == 0) {
+            let (mut next, mut sheet) = (pool.clone(), kept.clone());
+            next.anchored[x] = 1;
+            (sheet[0][x], sheet[1][x]) = (65535, 0);
+            anchored.wrong_sheet(&Case::naive(&next), &sheet);
+        }
+        for (u, v) in (0..pool.size()).flat_map(|v| (0..v).map(move |u| (u, v))) {
+            let mut edges: BTreeSet<(usize, usize)> =
+                (0..pool.size()).flat_map(|v| pool.list(v).iter().map(move |&u| (u as usize, v)).filter(|(u, v)| u < v)).collect();
+            if !edges.remove(&(u, v)) {
+                edges.insert((u, v));
+            }
+            let next = Pool::of_edges(pool.size(), edges, pool.anchored.clone());
+            joined.wrong_sheet(&Case::naive(&next), &kept);
+        }
+    }
+    println!("stale sheets, one more anchored: {:?}, one edge more or less: {:?}", anchored.answers, joined.answers);
+    // one more anchor takes no support away, so only 20 can fail; an edge dropped may lower someone
+    assert!(anchored.met(0) && anchored.met(20) && ![14, 19, 21].into_iter().any(|number| anchored.met(number)));
+    assert!([0, 19, 20, 21].into_iter().all(|number| joined.met(number)) && joined.overstating[&19] > 0);
+}
+
+/// docs/LEVEL_SHEET.md: what it says of the chain's sheets is what the planner answers, and the naive working.
+#[test]
+fn level_sheet_page() {
+    let page = std::fs::read_to_string(std::path::Path::new(env!("CARGO_MANIFEST_DIR")).join("../../docs/LEVEL_SHEET.md")).unwrap();
+    let (mut compared, mut rows) = (Compared::default(), 0);
+    for row in page.lines().filter(|line| line.starts_with("| `")) {
+        let cells: Vec<Vec<u64>> =
+            row.split('`').skip(1).step_by(2).map(|cell| cell.split_whitespace().map(|word| word.parse().unwrap()).collect()).collect();
+        let [anchored, levels, layers, answer] = cells.as_slice() else { panic!("{row}") };
+        let pool = Pool::of_edges(4, [(0, 1), (1, 2), (2, 3)], anchored.iter().map(|&byte| byte as u8).collect());
+        let sheet = [levels, layers].map(|half| half.iter().map(|&number| number as u16).collect());
+        let told = compared.check_sheet(&Case::naive(&pool), &sheet);
+        assert_eq!(told.map_or_else(|e| vec![e.number, e.place], |_| vec![0]), *answer, "{row}");
+        rows += 1;
+    }
+    assert_eq!(rows, 9);
+    assert!([0, 13, 14, 19, 20, 21].into_iter().all(|number| compared.met(number)));
 }
 
 /// Component lists in slices of n places that held 7: the levels, the sizes and the numbers.

@@ -94,18 +94,34 @@ impl Sheet {
         list.sort_by_key(|&(level, _, number)| (Reverse(level), number));
         list
     }
+}
 
-    /// Tests 13 and 14 of levels and layers, where this is the defined sheet.
-    pub fn check(&self, level: &[u16], layer: &[u16]) -> Result<(), Refusal> {
-        let n = self.level.len();
-        if level.len() != n || layer.len() != n {
-            return Err((13, 0));
-        }
-        if level != self.level || layer != self.layer {
-            return Err((14, 0));
-        }
-        Ok(())
+/// Tests 13, 14, 19, 20 and 21 of a sheet, the lowest number first, each over the whole sheet.
+pub fn check_sheet(graph: &Graph, anchored: &[bool], level: &[u16], layer: &[u16]) -> Result<(), Refusal> {
+    let n = graph.size();
+    if level.len() != n || layer.len() != n {
+        return Err((13, 0));
     }
+    let pair = |v: usize| (level[v], layer[v]);
+    // partners of v who are anchored or pass a test
+    let partners = |v: usize, passes: &dyn Fn(usize) -> bool| graph.neighbors[v].iter().filter(|&&u| anchored[u] || passes(u)).count();
+    let fails = |number: u32, v: usize| {
+        let (k, l) = pair(v);
+        match number {
+            14 if anchored[v] => (k, l) != (ANCHORED, 0),
+            14 => l == 0,
+            _ if anchored[v] => false,
+            19 => partners(v, &|u| level[u] >= k) < k as usize,
+            20 => partners(v, &|u| pair(u) >= (k, l)) > k as usize,
+            _ => l > 1 && partners(v, &|u| pair(u) >= (k, l - 1)) < k as usize + 1,
+        }
+    };
+    for number in [14, 19, 20, 21] {
+        if let Some(v) = (0..n).find(|&v| fails(number, v)) {
+            return Err((number, v as u64));
+        }
+    }
+    Ok(())
 }
 
 pub fn sheet(graph: &Graph, anchored: &[bool]) -> Sheet {

@@ -8,7 +8,7 @@ use lib.ListN.{length, take, getD}
 use borrow.Author.Needs.{needs}
 use Rattle.finite.specs.Count.{bit, count}
 use Rattle.finite.proofs.Count.{bit-le, in-at, count-more, count-end}
-use Rattle.level.specs.SheetCheck.{HasRow, standsAt}
+use Rattle.level.specs.Faults.{HasRow, standsAt}
 use Rattle.level.proofs.sheet.count_support.Statement.{statement}
 use Rattle.level.proofs.sheet.count_support.Tie as tie
 

@@ -1,5 +1,7 @@
-use mathlib.Core.Path.{ap, _∙_}
+use mathlib.Core.Path.{sym, ap, _∙_, subst}
+use Rattle.level.specs.SheetCheck.{Tells}
 use Rattle.numbers.specs.Numbers.{checkedAs}
+use Rattle.planner_c.proofs.Numbers.{number-is}
 use borrow.Author.Needs.{needs}
 use Rattle.planner_c.proofs.levels.planner_check_sheet.Statement.{statement}
 use Rattle.planner_c.proofs.levels.planner_check_sheet.Tie as tie
@@ -11,7 +13,10 @@ of-checked-requires : tie.Need-of-checked-requires
 of-checked-requires c κs = search needs
 
 returns : tie.Need-returns
-returns c = c .of-checked .ensures ∙ ap checkedAs (c .before .check-sheet .ensures)
+returns c =
+    let call = c .before .check-sheet in
+    let number = ap (λ r. r .number) (c .of-checked .ensures) ∙ number-is (call .result) in
+    (c .of-checked .ensures ∙ ap checkedAs (call .ensures .0), subst (Tells _ _ _ _ _) (sym number) (call .ensures .1))
 
 pub planner-check-sheet-spec : {M : Type 1} → statement M
 planner-check-sheet-spec = tie.close (tie.spec check-sheet-requires of-checked-requires returns)

@@ -1,0 +1,203 @@
+-- `sheet::fault_at` meets its contract: the three counts decide. Assumes nothing.
+use mathlib.Core.Path.{_≡_, refl, sym, ap, _∙_}
+use mathlib.Core.Logic.{⊎-elim}
+use mathlib.Core.Bool.{Bool, true, false, not, cond, _&&_}
+use mathlib.Core.List.{List}
+use Prim.Native.Nat.{ℕ, _-_, _≤_, _<_}
+use native.Mathlib.Omega.{arith}
+use lib.ListN.{getD}
+use lib.Dec.{leb, ltb, eqb}
+use borrow.Author.Tests.{lt-ltb, le-ltb, eqb-false}
+use borrow.Author.Needs.{needs}
+use Rattle.finite.specs.Count.{count, In}
+use Rattle.table.specs.Table.{neighbors}
+use Rattle.anchored.specs.Graph.{Graph}
+use Rattle.anchored.specs.Sheet.{support, misplaced, tooHigh, tooLow, tooLate}
+use Rattle.shells.specs.Input.{graphOf, anchoredBy}
+use Rattle.level.specs.Faults.{HasRow, standsAt}
+use Rattle.level.proofs.sheet.fault_at.Statement.{statement}
+use Rattle.level.proofs.sheet.fault_at.Tie as tie
+
+-- ---- the fault of one vertex, by the ways of the code
+
+module _ (G : Graph) (A : ℕ → Bool) (lev lay : ℕ → ℕ) (v : ℕ) where
+  abbrev fault : ℕ
+  fault = cond (misplaced G A lev lay v) 14 (cond (tooHigh G A lev lay v) 19 (cond (tooLow G A lev lay v) 20 (cond (tooLate G A lev lay v) 21 65535)))
+
+  out-of-place : misplaced G A lev lay v ≡ true → fault ≡ 14
+  out-of-place e = rw e
+
+  module _ (placed : misplaced G A lev lay v ≡ false) where
+    anchored-fits : A v ≡ true → fault ≡ 65535
+    unfolding tooHigh tooLow tooLate
+    anchored-fits anchored = rw (placed, tooHigh, tooLow, tooLate, anchored)
+
+    module _ (free : A v ≡ false) where
+      free-fault : fault
+          ≡ cond (ltb (support G A lev lay v (lev v) 0) (lev v)) 19
+          (cond (ltb (lev v) (support G A lev lay v (lev v) (lay v))) 20
+          (cond (ltb 1 (lay v) && leb (support G A lev lay v (lev v) (lay v - 1)) (lev v)) 21 65535))
+      unfolding tooHigh tooLow tooLate
+      free-fault = rw (placed, tooHigh, tooLow, tooLate, free)
+
+      free-layer : lay v ≡ 0 → ⊥
+      unfolding misplaced
+      free-layer = eqb-false (lay v) 0 (rw (misplaced, free) at placed)
+
+-- the three counts of a vertex that is not anchored and whose entry is in place
+record Counts (G : Graph) (A : ℕ → Bool) (lev lay : ℕ → ℕ) (v level pair before : ℕ) : Type 0 where
+  placed : misplaced G A lev lay v ≡ false
+  free : A v ≡ false
+  in-level : level ≡ support G A lev lay v (lev v) 0
+  in-pair : pair ≡ support G A lev lay v (lev v) (lay v)
+  in-before : before ≡ support G A lev lay v (lev v) (lay v - 1)
+
+module _ (G : Graph) (A : ℕ → Bool) (lev lay : ℕ → ℕ) (v level pair before : ℕ) (counts : Counts G A lev lay v level pair before) where
+  counted-fault : fault G A lev lay v ≡ cond (ltb level (lev v)) 19 (cond (ltb (lev v) pair) 20 (cond (ltb 1 (lay v) && leb before (lev v)) 21 65535))
+  counted-fault = free-fault G A lev lay v (counts .placed) (counts .free) ∙ rw (counts .in-level, counts .in-pair, counts .in-before)
+
+  too-high : level < lev v → fault G A lev lay v ≡ 19
+  too-high h = counted-fault ∙ rw (lt-ltb level (lev v) h)
+
+  module _ (enough : lev v ≤ level) where
+    too-low : lev v < pair → fault G A lev lay v ≡ 20
+    too-low h = counted-fault ∙ rw (le-ltb level (lev v) enough, lt-ltb (lev v) pair h)
+
+    module _ (few : pair ≤ lev v) where
+      settled : fault G A lev lay v ≡ cond (ltb 1 (lay v) && leb before (lev v)) 21 65535
+      settled = counted-fault ∙ rw (le-ltb level (lev v) enough, le-ltb (lev v) pair few)
+
+      first-layer : lay v ≤ 1 → fault G A lev lay v ≡ 65535
+      first-layer one = settled ∙ rw (le-ltb 1 (lay v) one)
+
+      later-layer : {b : Bool} → 1 < lay v → leb before (lev v) ≡ b → fault G A lev lay v ≡ cond b 21 65535
+      later-layer later t = settled ∙ rw (lt-ltb 1 (lay v) later, t)
+
+-- ---- the code's facts in those words
+
+abbrev entry : tie.After-is-misplaced → tie.Start
+entry c = c .before .before .before .before .before .before .before .before .before
+
+-- what was called says whether the entry of v is out of place
+told : (c : tie.After-is-misplaced) →
+    let args = entry c .args in
+    misplaced (graphOf (args .starts .now) (args .links .now)) (anchoredBy (args .anchored .now)) (λ w. getD (args .levels .now) w 0) (λ w. getD (args .layers .now) w 0) (args .v) ≡ c .is-misplaced .result
+unfolding misplaced
+told c = sym (c .is-misplaced .ensures)
+
+-- the neighbors have rows
+rows : (c : tie.Start) → let args = c .args in (w : ℕ) → In w (neighbors (args .starts .now) (args .links .now) (args .v)) → HasRow (args .anchored .now) (args .levels .now) (args .layers .now) w
+rows c w i =
+    let admitted = c .pre .0 in
+    let inside = admitted .table .range (c .args .v) w (c .pre .1 .1 .1) i in
+    let bytes = admitted .long in
+    omega arith
+
+-- counts over the neighbors, at the pair of v
+module _ (stands : ℕ → ℕ → ℕ → Bool) (part near : List ℕ) (k l m j : ℕ) (same-part : part ≡ near) (same-level : k ≡ m) (same-layer : l ≡ j) where
+  counted : (total : ℕ) → total ≡ count (stands k l) part → total ≡ count (stands m j) near
+  counted total e = rw (← same-part, ← same-level, ← same-layer) e
+
+counts : (c : tie.After-count-support) →
+    let args = entry (c .before .before .before .before .before) .args in
+    let result = c .count-support .result in
+    Counts (graphOf (args .starts .now) (args .links .now)) (anchoredBy (args .anchored .now)) (λ w. getD (args .levels .now) w 0) (λ w. getD (args .layers .now) w 0) (args .v) (result .level) (result .pair) (result .before)
+counts c =
+    let free = c .before .before .before in
+    let args = entry (free .before .before) .args in
+    let stands = standsAt (args .anchored .now) (args .levels .now) (args .layers .now) in
+    let near = c .before .before .neighbors .ensures in
+    let new = c .before .new .ensures in
+    let totals = c .count-support .ensures in record {
+      placed = told (free .before .before) ∙ free .before .if1 .left;
+      free = free .if2 .left;
+      in-level = counted stands _ _ _ _ _ _ near (new .0) refl _ (totals .0);
+      in-pair = counted stands _ _ _ _ _ _ near (new .0) (new .1) _ (totals .1 .0);
+      in-before = counted stands _ _ _ _ _ _ near (new .0) (ap (λ l. l - 1) (new .1)) _ (totals .1 .1);
+    }
+
+mul-level : tie.Need-mul-level
+mul-level c = search needs
+
+shared-slice-read-level : tie.Need-shared-slice-read-level
+shared-slice-read-level c = search needs
+
+mul-layer : tie.Need-mul-layer
+mul-layer c = search needs
+
+shared-slice-read-layer : tie.Need-shared-slice-read-layer
+shared-slice-read-layer c = search needs
+
+shared-slice-read-is-anchored : tie.Need-shared-slice-read-is-anchored
+shared-slice-read-is-anchored c = search needs
+
+is-misplaced-requires : tie.Need-is-misplaced-requires
+is-misplaced-requires c κs = search needs
+
+returns : tie.Need-returns
+returns c = sym (out-of-place _ _ _ _ _ (told (c .before) ∙ c .if1 .taken))
+
+returns-2 : tie.Need-returns-2
+returns-2 c = sym (anchored-fits _ _ _ _ _ (told (c .before .before) ∙ c .before .if1 .left) (c .if2 .taken))
+
+neighbors-requires : tie.Need-neighbors-requires
+neighbors-requires c κs = search needs
+
+new-requires : tie.Need-new-requires
+new-requires c κs = search needs
+
+count-support-requires : tie.Need-count-support-requires
+count-support-requires c κs =
+    let free = c .before .before in
+    let at = free .before .before in
+    let new = c .new .ensures in
+    let layer = free-layer _ _ _ _ _ (told at ∙ free .before .if1 .left) (free .if2 .left) in (
+      rw (c .before .neighbors .ensures) (rows (entry at)),
+      omega arith,
+    )
+
+cast-k : tie.Need-cast-k
+cast-k c = search needs
+
+returns-3 : tie.Need-returns-3
+returns-3 c = sym (too-high _ _ _ _ _ _ _ _ (counts (c .before .before)) (c .if3 .taken))
+
+returns-4 : tie.Need-returns-4
+returns-4 c = sym (too-low _ _ _ _ _ _ _ _ (counts (c .before .before .before .before)) (c .before .before .if3 .left) (c .if4 .taken))
+
+returns-5 : tie.Need-returns-5
+returns-5 c =
+    let few = c .before .before .before in
+    let enough = few .before .before in
+    sym (later-layer _ _ _ _ _ _ _ _ (counts (enough .before .before)) (enough .if3 .left) (few .if4 .left) (c .before .before .if5 .taken) (c .if6 .taken))
+
+returns-6 : tie.Need-returns-6
+returns-6 c =
+    let few = c .before in
+    let enough = few .before .before in
+    let all = counts (enough .before .before) in
+    ⊎-elim
+    (λ w. sym (later-layer _ _ _ _ _ _ _ _ all (enough .if3 .left) (few .if4 .left) (w .0 .taken) (w .2 .left)))
+    (λ w. sym (first-layer _ _ _ _ _ _ _ _ all (enough .if3 .left) (few .if4 .left) (w .left)))
+    (c .if5 .came)
+
+pub fault-at-spec : {M : Type 1} → statement M
+fault-at-spec =
+    tie.close
+    (tie.spec
+    mul-level
+    shared-slice-read-level
+    mul-layer
+    shared-slice-read-layer
+    shared-slice-read-is-anchored
+    is-misplaced-requires
+    returns
+    returns-2
+    neighbors-requires
+    new-requires
+    count-support-requires
+    cast-k
+    returns-3
+    returns-4
+    returns-5
+    returns-6)
