@@ -1,4 +1,5 @@
--- Document 01, "The level sheet": a sheet, lev and lay, is the defined one; and the local test of it, vertex by vertex.
+-- Document 01, "The level sheet": a sheet, lev and lay, is the defined one; and the local test of it, vertex by vertex, in the four parts
+-- that document 02, card 2, numbers 14, 19, 20 and 21.
 use mathlib.Core.Bool.{Bool, not, cond, _&&_, _||_}
 use Prim.Native.Nat.{ℕ, _-_, _≤_, _<_}
 use lib.Dec.{leb, ltb, eqb}
@@ -21,19 +22,19 @@ module _ (G : Graph) (A : ℕ → Bool) (lev lay : ℕ → ℕ) where
   abbrev pub support : ℕ → ℕ → ℕ → ℕ
   support v k l = count (atLeast A lev lay k l) (G .neighbors v)
 
-  -- an anchored entry that is not 65,535 and 0, or a layer 0 elsewhere
+  -- 14: an anchored entry that is not 65,535 and 0, or a layer 0 elsewhere
   unfoldable pub misplaced : ℕ → Bool
   misplaced v = cond (A v) (not (eqb (lev v) 65535 && eqb (lay v) 0)) (eqb (lay v) 0)
 
-  -- of level k and layer l: fewer than k neighbors, anchored or of level k or more
+  -- 19, of level k and layer l: fewer than k neighbors, anchored or of level k or more
   unfoldable pub tooHigh : ℕ → Bool
   tooHigh v = not (A v) && ltb (support v (lev v) 0) (lev v)
 
-  -- more than k neighbors, anchored or at or above (k, l)
+  -- 20: more than k neighbors, anchored or at or above (k, l)
   unfoldable pub tooLow : ℕ → Bool
   tooLow v = not (A v) && ltb (lev v) (support v (lev v) (lay v))
 
-  -- l above 1, and fewer than k + 1 neighbors, anchored or at or above (k, l - 1)
+  -- 21: l above 1, and fewer than k + 1 neighbors, anchored or at or above (k, l - 1)
   unfoldable pub tooLate : ℕ → Bool
   tooLate v = not (A v) && ltb 1 (lay v) && leb (support v (lev v) (lay v - 1)) (lev v)
 

@@ -3,10 +3,10 @@ use mathlib.Core.Path.{_≡_, refl, sym, _∙_}
 use mathlib.Core.Bool.{Bool, true, false, cond}
 use Prim.Native.Nat.{ℕ, _+_, _≤_, _<_}
 use native.Mathlib.Omega.{arith}
-use lib.Dec.{T, ltb, eqb, leb, leb→le, nleb→lt}
+use lib.Dec.{leb, eqb, leb→le, nleb→lt}
 use borrow.Author.Count.{below-more}
 use borrow.Author.Tests.{eq-eqb, ne-eqb}
-use Rattle.finite.specs.Search.{first, NoneBelow}
+use Rattle.finite.specs.Search.{NoneBelow}
 use Rattle.finite.proofs.Tests.{split, true-of, false-of}
 use Rattle.finite.proofs.Search.{first-hit}
 use Rattle.table.specs.Table.{refused, refuse}

@@ -19,8 +19,8 @@ use Rattle.table.proofs.Laws.{went-on, went-past, nothing, pass}
 use Rattle.table.proofs.Numbers.{Between, between-sound, between-next, between-found, between-past, zero-sound}
 use Rattle.anchored.specs.Core.{level}
 use Rattle.anchored.specs.Sheet.{misplaced, tooHigh, tooLow, tooLate, fits, isLocal}
-use Rattle.anchored.proofs.Sheet.{Local, local-agree, passes-local, local-passes, nowhere-overstated}
-use Rattle.shells.specs.Input.{graphOf, anchoredBy, admitOf, Admitted}
+use Rattle.anchored.proofs.Sheet.{local-agree, passes-local, local-passes, nowhere-overstated}
+use Rattle.shells.specs.Input.{graphOf, anchoredBy, admitOf}
 use Rattle.shells.proofs.Laws.{simple, went-through, admitted, between-admit}
 use Rattle.level.specs.SheetCheck.{sheetOf, checkSheetOf, Accepted, bounds, Tells}
 use Rattle.level.specs.Faults.{faultOf, Lowest}
@@ -36,12 +36,6 @@ bounded-past : (k : ℕ) (p : ℕ → Bool) (n : ℕ) (rest : Checked) → T (no
 bounded-past k p n rest other t =
     let r = bounded-on (ltb (first p n) n) k (first p n) rest other t in
     (nothing p n refl (ltb-false (first p n) n (r .0)), r .1)
-
--- the numbers 1 to 10 bound nothing
-low-unbounded : (k : ℕ) → 1 ≤ k → k ≤ 10 → T (bounds k) → ⊥
-low-unbounded k from upto t = or-e (eqb k 0 || eqb k 20) (eqb k 21) t
-    (λ u. or-e (eqb k 0) (eqb k 20) u (λ w. omega (arith, eqb→eq k 0 w)) (λ w. omega (arith, eqb→eq k 20 w)))
-    (λ u. omega (arith, eqb→eq k 21 u))
 
 module _ (s l a lev lay : List ℕ) where
   abbrev n : ℕ
@@ -187,12 +181,18 @@ module _ (s l a lev lay : List ℕ) where
   unfolding checkSheetOf
   overstates-nobody = go (admitOf s l a) refl
     where
+      -- the numbers 1 to 10 bound nothing
+      unbounded : (k : ℕ) → 1 ≤ k → k ≤ 10 → T (bounds k) → ⊥
+      unbounded k from upto t = or-e (eqb k 0 || eqb k 20) (eqb k 21) t
+          (λ u. or-e (eqb k 0) (eqb k 20) u (λ w. omega (arith, eqb→eq k 0 w)) (λ w. omega (arith, eqb→eq k 20 w)))
+          (λ u. omega (arith, eqb→eq k 21 u))
+
       go : (c : Checked) → admitOf s l a ≡ c → T (bounds (numberOf (elim c [ Sound ↦ sheetOf s l a lev lay | Refused r ↦ Refused r ]))) → (v : ℕ) → v < n → getD lev v 0 ≤ level (graphOf s l) (anchoredBy a) v
       go Sound e t =
           let tests = past-high t in
           nowhere-overstated (graphOf s l) (simple s l (admitted s l a e .table)) (anchoredBy a) levels layers
           (λ v h. of-false (out v) (tests .0 v h)) (λ v h. of-false (high v) (tests .1 v h))
-      go (Refused r) e t = let range = between-admit s l a 1 10 (omega arith) (omega arith) r e in absurd (low-unbounded (r .number) (range .0) (range .1) t)
+      go (Refused r) e t = let range = between-admit s l a 1 10 (omega arith) (omega arith) r e in absurd (unbounded (r .number) (range .0) (range .1) t)
 
   pub check-tells : Tells s l a lev lay (numberOf (checkSheetOf s l a lev lay))
   check-tells = record { defined = check-defined; bounded = overstates-nobody }

@@ -4,6 +4,7 @@ use mathlib.Core.Bool.{Bool, cond}
 use mathlib.Core.List.{List}
 use Prim.Native.Nat.{ℕ, _≤_, _<_}
 use lib.ListN.{length, getD}
+use Rattle.anchored.specs.Graph.{Graph}
 use Rattle.anchored.specs.Sheet.{atLeast, misplaced, tooHigh, tooLow, tooLate}
 use Rattle.shells.specs.Input.{graphOf, anchoredBy}
 
@@ -16,16 +17,16 @@ abbrev pub standsAt : List ℕ → List ℕ → List ℕ → ℕ → ℕ → ℕ
 standsAt a lev lay k l w = atLeast (anchoredBy a) (λ v. getD lev v 0) (λ v. getD lay v 0) k l w
 
 -- the lowest number of a test that the entry of v fails; 65,535 if it passes all
+abbrev pub faultAt : Graph → (ℕ → Bool) → (ℕ → ℕ) → (ℕ → ℕ) → ℕ → ℕ
+faultAt G A lev lay v =
+    cond (misplaced G A lev lay v) 14
+    (cond (tooHigh G A lev lay v) 19
+    (cond (tooLow G A lev lay v) 20
+    (cond (tooLate G A lev lay v) 21 65535)))
+
+-- the same of a table, bytes and a sheet
 abbrev pub faultOf : List ℕ → List ℕ → List ℕ → List ℕ → List ℕ → ℕ → ℕ
-faultOf s l a lev lay v =
-    let G = graphOf s l in
-    let A = anchoredBy a in
-    let levels : ℕ → ℕ = λ w. getD lev w 0 in
-    let layers : ℕ → ℕ = λ w. getD lay w 0 in
-    cond (misplaced G A levels layers v) 14
-    (cond (tooHigh G A levels layers v) 19
-    (cond (tooLow G A levels layers v) 20
-    (cond (tooLate G A levels layers v) 21 65535)))
+faultOf s l a lev lay = faultAt (graphOf s l) (anchoredBy a) (λ w. getD lev w 0) (λ w. getD lay w 0)
 
 -- of f 0 to f (n - 1) the lowest is `number`, first at `place`; 65,535 where none is lower
 pub record Lowest (f : ℕ → ℕ) (n number place : ℕ) : Type 0 where

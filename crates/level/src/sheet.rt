@@ -4,7 +4,7 @@ ghost use mathlib.Core.Path.{_≡_};
 ghost use mathlib.Core.Bool.{not, cond, _&&_};
 ghost use Prim.Native.Nat.{ℕ, _-_, _<_};
 ghost use lib.ListN.{length};
-ghost use lib.Dec.{eqb};
+ghost use lib.Dec.{leb, ltb, eqb};
 ghost use Rattle.finite.specs.Count.{count, In};
 ghost use Rattle.table.specs.Table.{vertices, numberOf};
 ghost use Rattle.shells.specs.Input.{Admitted};
@@ -85,6 +85,23 @@ fn is_misplaced(anchored: bool, level: u16, layer: u16) -> bool
     layer == 0
 }
 
+// The lowest number of a test that the counts of a vertex with that pair fail, or `NONE`.
+fn counted_fault(level: u16, layer: u16, support: Support) -> u16
+    ensures { λ r. ⌜ r ≡ cond (ltb (support .level) level) 19 (cond (ltb level (support .pair)) 20 (cond (ltb 1 layer && leb (support .before) level) 21 65535)) ⌝ }
+{
+    let k = level as usize;
+    if support.level < k {
+        return 19;
+    }
+    if k < support.pair {
+        return 20;
+    }
+    if 1 < layer && support.before <= k {
+        return 21;
+    }
+    NONE
+}
+
 // The lowest number of a test that the entry of v fails, or `NONE`.
 fn fault_at(
     starts: &[u16],
@@ -116,17 +133,7 @@ fn fault_at(
         layers,
         Pair::new(level, layer),
     );
-    let k = level as usize;
-    if support.level < k {
-        return 19;
-    }
-    if k < support.pair {
-        return 20;
-    }
-    if 1 < layer && support.before <= k {
-        return 21;
-    }
-    NONE
+    counted_fault(level, layer, support)
 }
 
 // The lowest number of a test that some entry fails, and the lowest vertex that fails it; `NONE` where none fails.

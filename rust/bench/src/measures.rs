@@ -142,7 +142,7 @@ pub fn sheets(seeds: &[u64]) -> Vec<Line> {
     let mut lines = [
         Line::new(check, "the planner's fresh working"),
         Line::new(check, "plain Rust: the sheet worked out and compared: levels by buckets, layers, no check of the table"),
-        Line::new("sheet check: the last entry refused", check),
+        Line::new("sheet check: one layer too high, refused", check),
     ];
     for &seed in seeds {
         let pools = several(seed);

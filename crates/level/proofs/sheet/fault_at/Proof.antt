@@ -1,39 +1,35 @@
--- `sheet::fault_at` meets its contract: the three counts decide. Assumes nothing.
+-- `sheet::fault_at` meets its contract: the place of the entry decides, then the three counts. Assumes nothing.
 use mathlib.Core.Path.{_≡_, refl, sym, ap, _∙_}
-use mathlib.Core.Logic.{⊎-elim}
-use mathlib.Core.Bool.{Bool, true, false, not, cond, _&&_}
+use mathlib.Core.Bool.{Bool, true, false, cond, _&&_}
 use mathlib.Core.List.{List}
-use Prim.Native.Nat.{ℕ, _-_, _≤_, _<_}
+use Prim.Native.Nat.{ℕ, _-_}
 use native.Mathlib.Omega.{arith}
 use lib.ListN.{getD}
-use lib.Dec.{leb, ltb, eqb}
-use borrow.Author.Tests.{lt-ltb, le-ltb, eqb-false}
+use lib.Dec.{leb, ltb}
+use borrow.Author.Tests.{eqb-false}
 use borrow.Author.Needs.{needs}
 use Rattle.finite.specs.Count.{count, In}
 use Rattle.table.specs.Table.{neighbors}
 use Rattle.anchored.specs.Graph.{Graph}
 use Rattle.anchored.specs.Sheet.{support, misplaced, tooHigh, tooLow, tooLate}
 use Rattle.shells.specs.Input.{graphOf, anchoredBy}
-use Rattle.level.specs.Faults.{HasRow, standsAt}
+use Rattle.level.specs.Faults.{HasRow, standsAt, faultAt}
 use Rattle.level.proofs.sheet.fault_at.Statement.{statement}
 use Rattle.level.proofs.sheet.fault_at.Tie as tie
 
 -- ---- the fault of one vertex, by the ways of the code
 
 module _ (G : Graph) (A : ℕ → Bool) (lev lay : ℕ → ℕ) (v : ℕ) where
-  abbrev fault : ℕ
-  fault = cond (misplaced G A lev lay v) 14 (cond (tooHigh G A lev lay v) 19 (cond (tooLow G A lev lay v) 20 (cond (tooLate G A lev lay v) 21 65535)))
-
-  out-of-place : misplaced G A lev lay v ≡ true → fault ≡ 14
+  out-of-place : misplaced G A lev lay v ≡ true → faultAt G A lev lay v ≡ 14
   out-of-place e = rw e
 
   module _ (placed : misplaced G A lev lay v ≡ false) where
-    anchored-fits : A v ≡ true → fault ≡ 65535
+    anchored-fits : A v ≡ true → faultAt G A lev lay v ≡ 65535
     unfolding tooHigh tooLow tooLate
     anchored-fits anchored = rw (placed, tooHigh, tooLow, tooLate, anchored)
 
     module _ (free : A v ≡ false) where
-      free-fault : fault
+      free-fault : faultAt G A lev lay v
           ≡ cond (ltb (support G A lev lay v (lev v) 0) (lev v)) 19
           (cond (ltb (lev v) (support G A lev lay v (lev v) (lay v))) 20
           (cond (ltb 1 (lay v) && leb (support G A lev lay v (lev v) (lay v - 1)) (lev v)) 21 65535))
@@ -52,26 +48,9 @@ record Counts (G : Graph) (A : ℕ → Bool) (lev lay : ℕ → ℕ) (v level pa
   in-pair : pair ≡ support G A lev lay v (lev v) (lay v)
   in-before : before ≡ support G A lev lay v (lev v) (lay v - 1)
 
-module _ (G : Graph) (A : ℕ → Bool) (lev lay : ℕ → ℕ) (v level pair before : ℕ) (counts : Counts G A lev lay v level pair before) where
-  counted-fault : fault G A lev lay v ≡ cond (ltb level (lev v)) 19 (cond (ltb (lev v) pair) 20 (cond (ltb 1 (lay v) && leb before (lev v)) 21 65535))
-  counted-fault = free-fault G A lev lay v (counts .placed) (counts .free) ∙ rw (counts .in-level, counts .in-pair, counts .in-before)
-
-  too-high : level < lev v → fault G A lev lay v ≡ 19
-  too-high h = counted-fault ∙ rw (lt-ltb level (lev v) h)
-
-  module _ (enough : lev v ≤ level) where
-    too-low : lev v < pair → fault G A lev lay v ≡ 20
-    too-low h = counted-fault ∙ rw (le-ltb level (lev v) enough, lt-ltb (lev v) pair h)
-
-    module _ (few : pair ≤ lev v) where
-      settled : fault G A lev lay v ≡ cond (ltb 1 (lay v) && leb before (lev v)) 21 65535
-      settled = counted-fault ∙ rw (le-ltb level (lev v) enough, le-ltb (lev v) pair few)
-
-      first-layer : lay v ≤ 1 → fault G A lev lay v ≡ 65535
-      first-layer one = settled ∙ rw (le-ltb 1 (lay v) one)
-
-      later-layer : {b : Bool} → 1 < lay v → leb before (lev v) ≡ b → fault G A lev lay v ≡ cond b 21 65535
-      later-layer later t = settled ∙ rw (lt-ltb 1 (lay v) later, t)
+-- they decide
+counted : (G : Graph) (A : ℕ → Bool) (lev lay : ℕ → ℕ) (v level pair before : ℕ) → Counts G A lev lay v level pair before → faultAt G A lev lay v ≡ cond (ltb level (lev v)) 19 (cond (ltb (lev v) pair) 20 (cond (ltb 1 (lay v) && leb before (lev v)) 21 65535))
+counted G A lev lay v level pair before counts = free-fault G A lev lay v (counts .placed) (counts .free) ∙ rw (counts .in-level, counts .in-pair, counts .in-before)
 
 -- ---- the code's facts in those words
 
@@ -93,10 +72,10 @@ rows c w i =
     let bytes = admitted .long in
     omega arith
 
--- counts over the neighbors, at the pair of v
+-- a count over the neighbors, at the pair of v
 module _ (stands : ℕ → ℕ → ℕ → Bool) (part near : List ℕ) (k l m j : ℕ) (same-part : part ≡ near) (same-level : k ≡ m) (same-layer : l ≡ j) where
-  counted : (total : ℕ) → total ≡ count (stands k l) part → total ≡ count (stands m j) near
-  counted total e = rw (← same-part, ← same-level, ← same-layer) e
+  count-is : (total : ℕ) → total ≡ count (stands k l) part → total ≡ count (stands m j) near
+  count-is total e = rw (← same-part, ← same-level, ← same-layer) e
 
 counts : (c : tie.After-count-support) →
     let args = entry (c .before .before .before .before .before) .args in
@@ -111,9 +90,9 @@ counts c =
     let totals = c .count-support .ensures in record {
       placed = told (free .before .before) ∙ free .before .if1 .left;
       free = free .if2 .left;
-      in-level = counted stands _ _ _ _ _ _ near (new .0) refl _ (totals .0);
-      in-pair = counted stands _ _ _ _ _ _ near (new .0) (new .1) _ (totals .1 .0);
-      in-before = counted stands _ _ _ _ _ _ near (new .0) (ap (λ l. l - 1) (new .1)) _ (totals .1 .1);
+      in-level = count-is stands _ _ _ _ _ _ near (new .0) refl _ (totals .0);
+      in-pair = count-is stands _ _ _ _ _ _ near (new .0) (new .1) _ (totals .1 .0);
+      in-before = count-is stands _ _ _ _ _ _ near (new .0) (ap (λ l. l - 1) (new .1)) _ (totals .1 .1);
     }
 
 mul-level : tie.Need-mul-level
@@ -156,30 +135,11 @@ count-support-requires c κs =
       omega arith,
     )
 
-cast-k : tie.Need-cast-k
-cast-k c = search needs
+counted-fault-requires : tie.Need-counted-fault-requires
+counted-fault-requires c κs = search needs
 
 returns-3 : tie.Need-returns-3
-returns-3 c = sym (too-high _ _ _ _ _ _ _ _ (counts (c .before .before)) (c .if3 .taken))
-
-returns-4 : tie.Need-returns-4
-returns-4 c = sym (too-low _ _ _ _ _ _ _ _ (counts (c .before .before .before .before)) (c .before .before .if3 .left) (c .if4 .taken))
-
-returns-5 : tie.Need-returns-5
-returns-5 c =
-    let few = c .before .before .before in
-    let enough = few .before .before in
-    sym (later-layer _ _ _ _ _ _ _ _ (counts (enough .before .before)) (enough .if3 .left) (few .if4 .left) (c .before .before .if5 .taken) (c .if6 .taken))
-
-returns-6 : tie.Need-returns-6
-returns-6 c =
-    let few = c .before in
-    let enough = few .before .before in
-    let all = counts (enough .before .before) in
-    ⊎-elim
-    (λ w. sym (later-layer _ _ _ _ _ _ _ _ all (enough .if3 .left) (few .if4 .left) (w .0 .taken) (w .2 .left)))
-    (λ w. sym (first-layer _ _ _ _ _ _ _ _ all (enough .if3 .left) (few .if4 .left) (w .left)))
-    (c .if5 .came)
+returns-3 c = c .counted-fault .ensures ∙ sym (counted _ _ _ _ _ _ _ _ (counts (c .before)))
 
 pub fault-at-spec : {M : Type 1} → statement M
 fault-at-spec =
@@ -196,8 +156,5 @@ fault-at-spec =
     neighbors-requires
     new-requires
     count-support-requires
-    cast-k
-    returns-3
-    returns-4
-    returns-5
-    returns-6)
+    counted-fault-requires
+    returns-3)

@@ -1,7 +1,7 @@
 -- `sheet::lowest_fault` meets its contract. The invariant: the fault is the lowest of the entries before v. Assumes nothing.
-use mathlib.Core.Path.{_≡_, sym, subst}
+use mathlib.Core.Path.{_≡_, subst}
 use mathlib.Core.Logic.{⊎-elim}
-use Prim.Native.Nat.{ℕ, _-_, _≤_, _<_}
+use Prim.Native.Nat.{ℕ, _-_, _≤_}
 use native.Mathlib.Omega.{arith}
 use borrow.Author.Needs.{needs}
 use Rattle.table.specs.Table.{vertices}
@@ -47,8 +47,8 @@ loop-again c =
     let low = at .loop .inv .1 in (
       omega arith,
       ⊎-elim
-          (λ w. rw (w .1, w .2, own) (lowest-take f v _ _ low (rw own at (w .0 .taken))))
-          (λ w. rw (w .1, w .2) (lowest-keep f v _ _ low (rw own at (w .0 .left))))
+          (λ w. rw (w .1, w .2, own) (lowest-take f v (at .loop .number) _ low (omega (arith, own, w .0 .taken))))
+          (λ w. rw (w .1, w .2) (lowest-keep f v (at .loop .number) _ low (omega (arith, own, w .0 .left))))
           (c .if1 .came),
     )
 
