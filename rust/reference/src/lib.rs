@@ -1,4 +1,4 @@
-//! The anchored core worked out naively from document 01's sentences: cores by repeated deletion, lifts by a second working,
+//! The anchored core worked out naively from the sentences of documents 01 and 02: cores by repeated deletion, lifts by a second working,
 //! sessions with everything fresh. Nothing here follows the planner's own code.
 
 pub mod quick;
