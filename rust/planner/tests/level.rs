@@ -375,7 +375,7 @@ fn level_sheet_page() {
         assert_eq!(told.map_or_else(|e| vec![e.number, e.place], |_| vec![0]), *answer, "{row}");
         rows += 1;
     }
-    assert_eq!(rows, 9);
+    assert_eq!(rows, 10);
     assert!([0, 13, 14, 19, 20, 21].into_iter().all(|number| compared.met(number)));
 }
 
