@@ -51,18 +51,18 @@ module _ (f : ℕ → ℕ) where
 -- ---- the tests
 
 -- the answer that a fault gives
-abbrev pub answerOf : ℕ → ℕ → Checked
-answerOf number place = cond (eqb number 65535) Sound (refused number place)
+abbrev pub answerBy : ℕ → ℕ → Checked
+answerBy number place = cond (eqb number 65535) Sound (refused number place)
 
 -- the tests that f numbers, all from low on, give the answer of its lowest value
-pub record Told (low : ℕ) (f : ℕ → ℕ) (n : ℕ) (answer : Checked) : Type 0 where
+pub record Numbered (low : ℕ) (f : ℕ → ℕ) (n : ℕ) (answer : Checked) : Type 0 where
   pub small : low ≤ 65535
   pub above : (v : ℕ) → low ≤ f v
-  pub decides : (number place : ℕ) → Lowest f n number place → answer ≡ answerOf number place
+  pub decides : (number place : ℕ) → Lowest f n number place → answer ≡ answerBy number place
 
 -- without a test nothing is refused
-pub told-none : (n : ℕ) → Told 65535 (λ v. 65535) n Sound
-told-none n = record {
+pub numbered-none : (n : ℕ) → Numbered 65535 (λ v. 65535) n Sound
+numbered-none n = record {
   small = omega arith;
   above = λ v. omega arith;
   decides = λ number place lowest. split (leb 65535 number)
@@ -71,7 +71,7 @@ told-none n = record {
 }
 
 -- one more test, of a lower number, before those
-module _ (k low : ℕ) (p : ℕ → Bool) (f : ℕ → ℕ) (n : ℕ) (rest : Checked) (lower : k < low) (told : Told low f n rest) where
+module _ (k low : ℕ) (p : ℕ → Bool) (f : ℕ → ℕ) (n : ℕ) (rest : Checked) (lower : k < low) (others : Numbered low f n rest) where
   abbrev g : ℕ → ℕ
   g v = cond (p v) k (f v)
 
@@ -86,16 +86,16 @@ module _ (k low : ℕ) (p : ℕ → Bool) (f : ℕ → ℕ) (n : ℕ) (rest : Ch
   above-passes v h = split (p v) (λ t. absurd (omega (arith, failed v (true-of (p v) t)))) (false-of (p v))
 
   upto-fails : (v : ℕ) → g v ≤ k → p v ≡ true
-  upto-fails v h = split (p v) (true-of (p v)) (λ t. absurd (omega (arith, passed v (false-of (p v) t), told .above v)))
+  upto-fails v h = split (p v) (true-of (p v)) (λ t. absurd (omega (arith, passed v (false-of (p v) t), others .above v)))
 
   above-k : (v : ℕ) → k ≤ g v
-  above-k v = split (p v) (λ t. omega (arith, failed v (true-of (p v) t))) (λ t. omega (arith, passed v (false-of (p v) t), told .above v))
+  above-k v = split (p v) (λ t. omega (arith, failed v (true-of (p v) t))) (λ t. omega (arith, passed v (false-of (p v) t), others .above v))
 
   module _ (number place : ℕ) (lowest : Lowest g n number place) where
     -- the lowest value is k: its place is the first vertex that fails the test
-    found : number ≤ k → refuse k p n rest ≡ answerOf number place
+    found : number ≤ k → refuse k p n rest ≡ answerBy number place
     found h =
-        let least : number < 65535 = omega (arith, told .small) in
+        let least : number < 65535 = omega (arith, others .small) in
         let at = lowest .at-place least in
         let inside = lowest .inside least in
         let e : number ≡ k = omega (arith, above-k place) in
@@ -103,11 +103,11 @@ module _ (k low : ℕ) (p : ℕ → Bool) (f : ℕ → ℕ) (n : ℕ) (rest : Ch
         hit k p n rest (sym (first-hit p n place none inside (upto-fails place (omega arith)))) inside ∙ rw (e, ne-eqb k 65535 (λ q. omega arith))
 
     -- it is above k: nobody fails the test, and the values are those of f
-    unfound : k < number → refuse k p n rest ≡ answerOf number place
+    unfound : k < number → refuse k p n rest ≡ answerBy number place
     unfound h =
         let none : NoneBelow p n = λ v b. above-passes v (omega (arith, lowest .least v b)) in
         let same : (v : ℕ) → v < n → g v ≡ f v = λ v b. passed v (none v b) in
-        pass k p n rest none ∙ told .decides number place record {
+        pass k p n rest none ∙ others .decides number place record {
           small = lowest .small;
           least = λ v b. omega (arith, lowest .least v b, same v b);
           inside = lowest .inside;
@@ -115,9 +115,9 @@ module _ (k low : ℕ) (p : ℕ → Bool) (f : ℕ → ℕ) (n : ℕ) (rest : Ch
           before = λ b v c. omega (arith, lowest .before b v c, same v (omega (arith, lowest .inside b)));
         }
 
-  pub told-more : Told k g n (refuse k p n rest)
-  told-more = record {
-    small = omega (arith, told .small);
+  pub numbered-more : Numbered k g n (refuse k p n rest)
+  numbered-more = record {
+    small = omega (arith, others .small);
     above = above-k;
     decides = λ number place lowest. split (leb number k) (λ t. found number place lowest (leb→le number k t)) (λ t. unfound number place lowest (nleb→lt number k t));
   }

@@ -24,7 +24,7 @@ use Rattle.shells.specs.Input.{graphOf, anchoredBy, admitOf}
 use Rattle.shells.proofs.Laws.{simple, went-through, admitted, between-admit}
 use Rattle.level.specs.SheetCheck.{sheetOf, checkSheetOf, Accepted, bounds, Tells}
 use Rattle.level.specs.Faults.{faultOf, Lowest}
-use Rattle.level.proofs.Faults.{answerOf, told-none, told-more}
+use Rattle.level.proofs.Faults.{answerBy, numbered-none, numbered-more}
 
 -- past a refusal whose number bounds nothing
 bounded-on : (b : Bool) (k p : ℕ) (rest : Checked) → T (not (bounds k)) → T (bounds (numberOf (cond b (refused k p) rest))) → (b ≡ false) × T (bounds (numberOf rest))
@@ -89,13 +89,13 @@ module _ (s l a lev lay : List ℕ) where
   entries-decide levels-long layers-long = rw (sheetOf, eq-eqb (length lev) n levels-long, eq-eqb (length lay) n layers-long)
 
   -- else the lowest fault decides
-  pub faults-decide : length lev ≡ n → length lay ≡ n → (number place : ℕ) → Lowest (faultOf s l a lev lay) n number place → sheetOf s l a lev lay ≡ answerOf number place
+  pub faults-decide : length lev ≡ n → length lay ≡ n → (number place : ℕ) → Lowest (faultOf s l a lev lay) n number place → sheetOf s l a lev lay ≡ answerBy number place
   faults-decide levels-long layers-long number place lowest =
-      let late-told = told-more 21 65535 late _ n _ (omega arith) (told-none n) in
-      let low-told = told-more 20 21 low _ n _ (omega arith) late-told in
-      let high-told = told-more 19 20 high _ n _ (omega arith) low-told in
-      let all-told = told-more 14 19 out _ n _ (omega arith) high-told in
-      entries-decide levels-long layers-long ∙ all-told .decides number place lowest
+      let late-numbered = numbered-more 21 65535 late _ n _ (omega arith) (numbered-none n) in
+      let low-numbered = numbered-more 20 21 low _ n _ (omega arith) late-numbered in
+      let high-numbered = numbered-more 19 20 high _ n _ (omega arith) low-numbered in
+      let all-numbered = numbered-more 14 19 out _ n _ (omega arith) high-numbered in
+      entries-decide levels-long layers-long ∙ all-numbered .decides number place lowest
 
   -- ---- acceptance
 

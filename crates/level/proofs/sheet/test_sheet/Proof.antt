@@ -4,7 +4,7 @@ use native.Mathlib.Omega.{arith}
 use borrow.Author.Tests.{eq-eqb, ne-eqb}
 use borrow.Author.Needs.{needs}
 use Rattle.level.specs.SheetCheck.{sheetOf}
-use Rattle.level.proofs.Faults.{answerOf}
+use Rattle.level.proofs.Faults.{answerBy}
 use Rattle.level.proofs.Laws.{wrong-levels, wrong-layers, faults-decide}
 use Rattle.level.proofs.sheet.test_sheet.Statement.{statement}
 use Rattle.level.proofs.sheet.test_sheet.Tie as tie
@@ -16,7 +16,7 @@ entry c = c .before .before .before .before .before .before .before
 answer : (c : tie.After-lowest-fault) →
     let args = entry (c .before) .args in
     let fault = c .lowest-fault .result in
-    sheetOf (args .starts .now) (args .links .now) (args .anchored .now) (args .levels .now) (args .layers .now) ≡ answerOf (fault .number) (fault .place)
+    sheetOf (args .starts .now) (args .links .now) (args .anchored .now) (args .levels .now) (args .layers .now) ≡ answerBy (fault .number) (fault .place)
 answer c = faults-decide _ _ _ _ _ (c .before .before .if1 .left) (c .before .if2 .left) _ _ (c .lowest-fault .ensures)
 
 sub-n : tie.Need-sub-n
