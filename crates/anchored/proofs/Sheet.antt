@@ -232,48 +232,63 @@ module _ (G : Graph) (A : ℕ → Bool) (lev lay : ℕ → ℕ) where
   abbrev counted : ℕ → ℕ → ℕ → ℕ
   counted = support G A lev lay
 
-  pub fits-free : (v : ℕ) → T (not (A v)) → T (fits G A lev lay v) → Fits G A lev lay v
-  unfolding fits misplaced tooHigh tooLow tooLate
-  fits-free v a t =
+  -- an entry of an anchored vertex that is in place is 65,535 and 0
+  placed-anchored : (v : ℕ) → T (A v) → T (not (misplaced G A lev lay v)) → (lev v ≡ 65535) × (lay v ≡ 0)
+  unfolding misplaced
+  placed-anchored v a placed =
+      let m = not-not (eqb (lev v) 65535 && eqb (lay v) 0) (rw (true-of (A v) a) at placed) in
+      (eqb→eq (lev v) 65535 (and-l (eqb (lev v) 65535) _ m), eqb→eq (lay v) 0 (and-r (eqb (lev v) 65535) _ m))
+
+  -- an entry fits exactly when it passes each of the four tests
+  pub fits-each : (v : ℕ) → T (fits G A lev lay v) → T (not (misplaced G A lev lay v)) × T (not (tooHigh G A lev lay v)) × T (not (tooLow G A lev lay v)) × T (not (tooLate G A lev lay v))
+  unfolding fits
+  fits-each v t =
       let late = not-or (misplaced G A lev lay v || tooHigh G A lev lay v || tooLow G A lev lay v) _ t in
       let low = not-or (misplaced G A lev lay v || tooHigh G A lev lay v) _ (late .0) in
       let high = not-or (misplaced G A lev lay v) _ (low .0) in
+      (high .0, high .1, low .1, late .1)
+
+  pub fits-all : (v : ℕ) → T (not (misplaced G A lev lay v)) → T (not (tooHigh G A lev lay v)) → T (not (tooLow G A lev lay v)) → T (not (tooLate G A lev lay v)) → T (fits G A lev lay v)
+  unfolding fits
+  fits-all v out high low late =
+      or-not (misplaced G A lev lay v || tooHigh G A lev lay v || tooLow G A lev lay v) _
+      (or-not (misplaced G A lev lay v || tooHigh G A lev lay v) _ (or-not (misplaced G A lev lay v) _ out high) low) late
+
+  pub fits-free : (v : ℕ) → T (not (A v)) → T (fits G A lev lay v) → Fits G A lev lay v
+  unfolding misplaced tooHigh tooLow tooLate
+  fits-free v a t =
+      let each = fits-each v t in
       record {
-        positive = let ne = neqb (lay v) 0 (rw (false-of (A v) a) at (high .0)) in omega arith;
-        enough = omega (arith, nleb→lt (suc (counted v (lev v) 0)) (lev v) (nand (not (A v)) _ (high .1) a));
-        few = omega (arith, nleb→lt (suc (lev v)) (counted v (lev v) (lay v)) (nand (not (A v)) _ (low .1) a));
-        later = λ h. nleb→lt (counted v (lev v) (lay v - 1)) (lev v) (nand (not (A v) && ltb 1 (lay v)) _ (late .1) (and-i (not (A v)) _ a (le→leb 2 (lay v) h)));
+        positive = let ne = neqb (lay v) 0 (rw (false-of (A v) a) at (each .0)) in omega arith;
+        enough = omega (arith, nleb→lt (suc (counted v (lev v) 0)) (lev v) (nand (not (A v)) _ (each .1) a));
+        few = omega (arith, nleb→lt (suc (lev v)) (counted v (lev v) (lay v)) (nand (not (A v)) _ (each .2) a));
+        later = λ h. nleb→lt (counted v (lev v) (lay v - 1)) (lev v) (nand (not (A v) && ltb 1 (lay v)) _ (each .3) (and-i (not (A v)) _ a (le→leb 2 (lay v) h)));
       }
 
   pub fits-anchored : (v : ℕ) → T (A v) → T (fits G A lev lay v) → (lev v ≡ 65535) × (lay v ≡ 0)
-  unfolding fits misplaced
-  fits-anchored v a t =
-      let late = not-or (misplaced G A lev lay v || tooHigh G A lev lay v || tooLow G A lev lay v) _ t in
-      let high = not-or (misplaced G A lev lay v) _ (not-or (misplaced G A lev lay v || tooHigh G A lev lay v) _ (late .0) .0) in
-      let m = not-not (eqb (lev v) 65535 && eqb (lay v) 0) (rw (true-of (A v) a) at (high .0)) in
-      (eqb→eq (lev v) 65535 (and-l (eqb (lev v) 65535) _ m), eqb→eq (lay v) 0 (and-r (eqb (lev v) 65535) _ m))
+  fits-anchored v a t = placed-anchored v a (fits-each v t .0)
 
   pub local-fits : Local G A lev lay → (v : ℕ) → v < G .size → T (fits G A lev lay v)
-  unfolding fits misplaced tooHigh tooLow tooLate
-  local-fits F v b =
-      or-not (misplaced G A lev lay v || tooHigh G A lev lay v || tooLow G A lev lay v) _
-      (or-not (misplaced G A lev lay v || tooHigh G A lev lay v) _
-      (or-not (misplaced G A lev lay v) _
+  unfolding misplaced tooHigh tooLow tooLate
+  local-fits F v b = fits-all v
       (split (A v)
       (λ a. let k = F .anchored v b a in rw (true-of (A v) a) (not-T (not (eqb (lev v) 65535 && eqb (lay v) 0)) (λ n. T-not (eqb (lev v) 65535 && eqb (lay v) 0) n (and-i (eqb (lev v) 65535) _ (eqb-of (lev v) 65535 (k .0)) (eqb-of (lay v) 0 (k .1))))))
       (λ a. rw (false-of (A v) a) (not-T (eqb (lay v) 0) (λ n. absurd (omega (arith, eqb→eq (lay v) 0 n, F .free v b a .positive))))))
-      (nand-i (not (A v)) _ (λ a. not-T (ltb (counted v (lev v) 0) (lev v)) (λ n. absurd (omega (arith, leb→le (suc (counted v (lev v) 0)) (lev v) n, F .free v b a .enough))))))
-      (nand-i (not (A v)) _ (λ a. not-T (ltb (lev v) (counted v (lev v) (lay v))) (λ n. absurd (omega (arith, leb→le (suc (lev v)) (counted v (lev v) (lay v)) n, F .free v b a .few))))))
+      (nand-i (not (A v)) _ (λ a. not-T (ltb (counted v (lev v) 0) (lev v)) (λ n. absurd (omega (arith, leb→le (suc (counted v (lev v) 0)) (lev v) n, F .free v b a .enough)))))
+      (nand-i (not (A v)) _ (λ a. not-T (ltb (lev v) (counted v (lev v) (lay v))) (λ n. absurd (omega (arith, leb→le (suc (lev v)) (counted v (lev v) (lay v)) n, F .free v b a .few)))))
       (nand-i (not (A v) && ltb 1 (lay v)) _ (λ a. not-T (leb (counted v (lev v) (lay v - 1)) (lev v)) (λ n.
       let one = leb→le 2 (lay v) (and-r (not (A v)) _ a) in
       absurd (omega (arith, leb→le (counted v (lev v) (lay v - 1)) (lev v) n, F .free v b (and-l (not (A v)) _ a) .later one)))))
 
-  pub passes-local : T (isLocal G A lev lay) → Local G A lev lay
-  unfolding isLocal
-  passes-local t = let each = all-below-e (fits G A lev lay) (G .size) t in record {
+  pub fits-local : ((v : ℕ) → v < G .size → T (fits G A lev lay v)) → Local G A lev lay
+  fits-local each = record {
     anchored = λ v b a. fits-anchored v a (each v b);
     free = λ v b a. fits-free v a (each v b);
   }
+
+  pub passes-local : T (isLocal G A lev lay) → Local G A lev lay
+  unfolding isLocal
+  passes-local t = fits-local (all-below-e (fits G A lev lay) (G .size) t)
 
   pub local-passes : Local G A lev lay → T (isLocal G A lev lay)
   unfolding isLocal
@@ -295,9 +310,7 @@ local-iff G L A lev lay = same (isLocal G A lev lay) (isDefined G A lev lay)
 pub nowhere-overstated :
     (G : Graph) → Simple G → (A : ℕ → Bool) (lev lay : ℕ → ℕ) → ((v : ℕ) → v < G .size → T (not (misplaced G A lev lay v)))
     → ((v : ℕ) → v < G .size → T (not (tooHigh G A lev lay v))) → (v : ℕ) → v < G .size → lev v ≤ level G A v
-unfolding misplaced tooHigh
+unfolding tooHigh
 nowhere-overstated G L A lev lay placed low v b = split (A v)
-    (λ a.
-    let m = not-not (eqb (lev v) 65535 && eqb (lay v) 0) (rw (true-of (A v) a) at (placed v b)) in
-    omega (arith, eqb→eq (lev v) 65535 (and-l (eqb (lev v) 65535) _ m), level-anchored G L A v a))
+    (λ a. omega (arith, placed-anchored G A lev lay v a (placed v b) .0, level-anchored G L A v a))
     (not-overstated G L A lev lay (λ w c a. omega (arith, nleb→lt (suc (support G A lev lay w (lev w) 0)) (lev w) (nand (not (A w)) _ (low w c) a))) v b)

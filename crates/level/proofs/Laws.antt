@@ -10,16 +10,15 @@ use lib.ListN.{length, getD}
 use lib.Dec.{T, T-not, ltb, eqb, eqb→eq}
 use borrow.Author.Tests.{eq-eqb, ne-eqb, eqb-true, ltb-false, not-false}
 use Rattle.finite.specs.Search.{first, NoneBelow}
-use Rattle.finite.proofs.Tests.{or-e, not-or, or-not, false-of, of-false}
-use Rattle.finite.proofs.Search.{all-below-i, all-below-e}
+use Rattle.finite.proofs.Tests.{or-e, false-of, of-false}
 use Rattle.table.specs.Table.{vertices, refused, numberOf, refuse, SoundTable}
 use Rattle.table.specs.declared.Checked.{Checked}
 use Rattle.table.specs.declared.Checked.the-variants.{Sound, Refused}
 use Rattle.table.proofs.Laws.{went-on, went-past, nothing, pass}
 use Rattle.table.proofs.Numbers.{Between, between-sound, between-next, between-found, between-past, zero-sound}
 use Rattle.anchored.specs.Core.{level}
-use Rattle.anchored.specs.Sheet.{misplaced, tooHigh, tooLow, tooLate, fits, isLocal}
-use Rattle.anchored.proofs.Sheet.{local-agree, passes-local, local-passes, nowhere-overstated}
+use Rattle.anchored.specs.Sheet.{misplaced, tooHigh, tooLow, tooLate}
+use Rattle.anchored.proofs.Sheet.{Local, local-agree, fits-each, fits-all, fits-local, local-fits, nowhere-overstated}
 use Rattle.shells.specs.Input.{graphOf, anchoredBy, admitOf}
 use Rattle.shells.proofs.Laws.{simple, went-through, admitted, between-admit}
 use Rattle.level.specs.SheetCheck.{sheetOf, checkSheetOf, Accepted, bounds, Tells}
@@ -101,7 +100,7 @@ module _ (s l a lev lay : List ℕ) where
 
   -- a sheet that passes the four tests is exactly the defined one
   pub accepted : SoundTable s l → sheetOf s l a lev lay ≡ Sound → Accepted s l a lev lay
-  unfolding sheetOf isLocal fits
+  unfolding sheetOf
   accepted table e =
       let first-half = went-on _ _ _ _ e in
       let second-half = went-on _ _ _ _ (first-half .1) in
@@ -109,13 +108,10 @@ module _ (s l a lev lay : List ℕ) where
       let past-high = went-past 19 high n from-low (past-out .1) in
       let past-low = went-past 20 low n from-late (past-high .1) in
       let past-late = went-past 21 late n Sound (past-low .1) in
-      let passes : T (isLocal (graphOf s l) (anchoredBy a) levels layers) = all-below-i _ n (λ v h.
-      or-not (out v || high v || low v) (late v)
-      (or-not (out v || high v) (low v)
-      (or-not (out v) (high v) (of-false (out v) (past-out .0 v h)) (of-false (high v) (past-high .0 v h)))
-      (of-false (low v) (past-low .0 v h)))
-      (of-false (late v) (past-late .0 v h))) in
-      let each = local-agree (graphOf s l) (simple s l table) (anchoredBy a) levels layers .0 (passes-local (graphOf s l) (anchoredBy a) levels layers passes) in
+      let fitting : Local (graphOf s l) (anchoredBy a) levels layers = fits-local (graphOf s l) (anchoredBy a) levels layers (λ v h.
+      fits-all (graphOf s l) (anchoredBy a) levels layers v
+      (of-false (out v) (past-out .0 v h)) (of-false (high v) (past-high .0 v h)) (of-false (low v) (past-low .0 v h)) (of-false (late v) (past-late .0 v h))) in
+      let each = local-agree (graphOf s l) (simple s l table) (anchoredBy a) levels layers .0 fitting in
       record {
         levels-long = eqb-true (length lev) n (not-false (eqb (length lev) n) (first-half .0));
         layers-long = eqb-true (length lay) n (not-false (eqb (length lay) n) (second-half .0));
@@ -124,18 +120,15 @@ module _ (s l a lev lay : List ℕ) where
       }
 
   pub accepts : SoundTable s l → Accepted s l a lev lay → sheetOf s l a lev lay ≡ Sound
-  unfolding isLocal fits
   accepts table h =
       let agrees = local-agree (graphOf s l) (simple s l table) (anchoredBy a) levels layers .1 (λ v b. (h .levels-hold v b, h .layers-hold v b)) in
-      let each = all-below-e _ n (local-passes (graphOf s l) (anchoredBy a) levels layers agrees) in
-      let not-late : (v : ℕ) → v < n → T (not (out v || high v || low v)) × T (not (late v)) = λ v b. not-or (out v || high v || low v) (late v) (each v b) in
-      let not-low : (v : ℕ) → v < n → T (not (out v || high v)) × T (not (low v)) = λ v b. not-or (out v || high v) (low v) (not-late v b .0) in
-      let not-high : (v : ℕ) → v < n → T (not (out v)) × T (not (high v)) = λ v b. not-or (out v) (high v) (not-low v b .0) in
+      let each : (v : ℕ) → v < n → T (not (out v)) × T (not (high v)) × T (not (low v)) × T (not (late v))
+      = λ v b. fits-each (graphOf s l) (anchoredBy a) levels layers v (local-fits (graphOf s l) (anchoredBy a) levels layers agrees v b) in
       entries-decide (h .levels-long) (h .layers-long)
-      ∙ pass 14 out n from-high (λ v b. false-of (out v) (not-high v b .0))
-      ∙ pass 19 high n from-low (λ v b. false-of (high v) (not-high v b .1))
-      ∙ pass 20 low n from-late (λ v b. false-of (low v) (not-low v b .1))
-      ∙ pass 21 late n Sound (λ v b. false-of (late v) (not-late v b .1))
+      ∙ pass 14 out n from-high (λ v b. false-of (out v) (each v b .0))
+      ∙ pass 19 high n from-low (λ v b. false-of (high v) (each v b .1))
+      ∙ pass 20 low n from-late (λ v b. false-of (low v) (each v b .2))
+      ∙ pass 21 late n Sound (λ v b. false-of (late v) (each v b .3))
 
   -- ---- the numbers
 
