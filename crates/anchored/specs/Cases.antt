@@ -13,6 +13,7 @@ use Rattle.anchored.specs.Graph.{Graph}
 use Rattle.anchored.specs.Core.{batch, core, level, shell, layer, greater, higher}
 use Rattle.anchored.specs.Component.{joins, around, component, together, heads, componentSize, ranked}
 use Rattle.anchored.specs.Followers.{follows, followers, followerCount, firstStep, onward, candidates, reached, mark, best, choice}
+use Rattle.anchored.specs.Collapse.{falls, fallMark, exposed}
 use Rattle.anchored.specs.Sheet.{isDefined, misplaced, tooHigh, tooLow, tooLate, fits, isLocal}
 use Rattle.anchored.specs.Step.{above, undisturbed, seesDisturbed, seesNew, recomputed}
 use Rattle.anchored.specs.Session.{Row, statusOf, rowOf, turn, after}
@@ -50,6 +51,10 @@ module _ (G : Graph) (A : ℕ → Bool) where
   -- the marks of the search from x, and its counts of followers and of candidates
   abbrev search-from : ℕ → List (List ℕ)
   search-from x = tabulate (mark G A x) (G .size) ∷ (followers G A x ∷ reached G A x ∷ []) ∷ []
+
+  -- whose level falls with x collapsed, and who is in a component to be searched
+  abbrev collapse-of : ℕ → List (List ℕ)
+  collapse-of x = tabulate (fallMark G A x) (G .size) ∷ tabulate (λ v. bit (exposed G A x v)) (G .size) ∷ []
 
   -- whether a sheet is the defined one, and whether it passes the local test
   abbrev verdicts : List ℕ → List ℕ → List Bool
@@ -118,5 +123,14 @@ pub cases :
     ≡ (0 ∷ 3 ∷ []) ∷ (1 ∷ 2 ∷ 3 ∷ []) ∷ (1 ∷ 0 ∷ 3 ∷ []) ∷ [] ∷ [] ∷ [])
     -- the choice of a round: the greatest count, the lowest of equals, also at 0; the size if all are anchored
     × (choice chain (among (0 ∷ [])) ∷ choice star (among (1 ∷ [])) ∷ choice chain (among []) ∷ choice single (among (0 ∷ [])) ∷ [] ≡ 3 ∷ 2 ∷ 0 ∷ 1 ∷ [])
-unfolding tabulate below count any all firstFrom first largest select falling keep having rounds grow pairLe batch core level shell layer greater higher joins around component together heads componentSize ranked follows followers followerCount firstStep onward candidates reached mark best choice isDefined misplaced tooHigh tooLow tooLate fits isLocal above undisturbed seesDisturbed seesNew recomputed statusOf rowOf turn after
-cases = (refl, refl, refl, refl, refl, refl, refl, refl, refl, refl, refl, refl, refl, refl, refl, refl, refl, refl, refl, refl, refl, refl, refl, refl, refl, refl, refl, refl, refl, refl, refl, refl, refl, refl, refl, refl)
+    -- a collapse: x itself is not marked; nobody falls where enough are left, or by one of a lower level; x's own component and a lower one fall
+    × (collapse-of (graph ((1 ∷ []) ∷ (0 ∷ []) ∷ [])) (among []) 0 ≡ (0 ∷ 1 ∷ []) ∷ (1 ∷ 1 ∷ []) ∷ [])
+    × (collapse-of chain (among []) 0 ≡ (0 ∷ 0 ∷ 0 ∷ 0 ∷ []) ∷ (1 ∷ 1 ∷ 1 ∷ 1 ∷ []) ∷ [])
+    × (collapse-of kite (among []) 3 ≡ (0 ∷ 0 ∷ 0 ∷ 0 ∷ []) ∷ (0 ∷ 0 ∷ 0 ∷ 1 ∷ []) ∷ [])
+    × (collapse-of kite (among []) 0 ≡ (0 ∷ 1 ∷ 1 ∷ 1 ∷ []) ∷ (1 ∷ 1 ∷ 1 ∷ 1 ∷ []) ∷ [])
+    -- one that falls still holds a neighbor of a lower level; an anchored x, and one who falls without being its neighbor
+    × (collapse-of kite (among []) 1 ≡ (1 ∷ 0 ∷ 1 ∷ 0 ∷ []) ∷ (1 ∷ 1 ∷ 1 ∷ 0 ∷ []) ∷ [])
+    × (collapse-of chain (among (0 ∷ 3 ∷ [])) 0 ≡ (0 ∷ 1 ∷ 1 ∷ 0 ∷ []) ∷ (0 ∷ 1 ∷ 1 ∷ 0 ∷ []) ∷ [])
+    × (collapse-of star (among (1 ∷ [])) 1 ≡ (0 ∷ 0 ∷ 0 ∷ 0 ∷ []) ∷ (1 ∷ 0 ∷ 1 ∷ 1 ∷ []) ∷ [])
+unfolding tabulate below count any all firstFrom first largest select falling keep having rounds grow pairLe batch core level shell layer greater higher joins around component together heads componentSize ranked follows followers followerCount firstStep onward candidates reached mark best choice falls fallMark exposed isDefined misplaced tooHigh tooLow tooLate fits isLocal above undisturbed seesDisturbed seesNew recomputed statusOf rowOf turn after
+cases = (refl, refl, refl, refl, refl, refl, refl, refl, refl, refl, refl, refl, refl, refl, refl, refl, refl, refl, refl, refl, refl, refl, refl, refl, refl, refl, refl, refl, refl, refl, refl, refl, refl, refl, refl, refl, refl, refl, refl, refl, refl, refl, refl)

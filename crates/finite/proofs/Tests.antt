@@ -1,5 +1,5 @@
 -- Bool tests and the facts that they stand for. Assumes nothing.
-use mathlib.Core.Path.{_≡_, refl, sym, subst}
+use mathlib.Core.Path.{_≡_, refl, sym, ap, _∙_, subst}
 use mathlib.Core.Bool.{Bool, true, false, not, _&&_, _||_, Bool·beq}
 use Prim.Native.Nat.{ℕ, suc}
 use native.Mathlib.Omega.{arith}
@@ -98,3 +98,10 @@ pub not-leb : (m n : ℕ) → not (leb m n) ≡ ltb n m
 not-leb m n = same (not (leb m n)) (ltb n m)
     (λ t. le→leb (suc n) m (nleb→lt m n t))
     (λ t. not-T (leb m n) (λ s. absurd (omega (arith, leb→le m n s, leb→le (suc n) m t))))
+
+pub not-ltb : (m n : ℕ) → not (ltb n m) ≡ leb m n
+not-ltb m n = ap not (sym (not-leb m n)) ∙ twice (leb m n)
+  where
+    twice : (b : Bool) → not (not b) ≡ b
+    twice true = refl
+    twice false = refl
