@@ -1,3 +1,4 @@
 pub mod Laws
 pub mod Answers
+pub mod Marking
 pub mod Faults

@@ -1,4 +1,5 @@
 pub mod SheetCheck
 pub mod Faults
 pub mod Answers
+pub mod Marking
 pub mod Cases

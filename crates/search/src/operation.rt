@@ -6,40 +6,13 @@ ghost use Rattle.table.specs.Table.{vertices};
 ghost use Rattle.anchored.specs.Followers.{followers as followersIn, reached as reachedIn};
 ghost use Rattle.shells.specs.Input.{graphOf, anchoredBy, Admitted};
 ghost use Rattle.level.specs.SheetCheck.{Accepted};
-ghost use Rattle.search.specs.Answers.{startOf, searchOf, followersOf, marksOf, marked};
+ghost use Rattle.search.specs.Answers.{searchOf, followersOf, marksOf, marked};
 ghost use Rattle.search.specs.declared.operation.Searched.the-variants.{Found};
 
 // The answer of a search: how many follow and how many are candidates, or a refusal.
 pub enum Searched {
     Found(usize, usize),
     Refused(table::Refusal),
-}
-
-// Refusals 13, 14, 19, 20, 21, 15 and 16 of an admitted input, or `Sound`.
-fn test_start(
-    starts: &[u16],
-    links: &[u16],
-    anchored: &[u8],
-    levels: &[u16],
-    layers: &[u16],
-    x: usize,
-) -> table::Checked
-    requires { ⌜ Admitted (now starts) (now links) (now anchored) ⌝ }
-    ensures { λ r. ⌜ r ≡ startOf (now (starts .entry)) (now (links .entry)) (now (anchored .entry)) (now (levels .entry)) (now (layers .entry)) x ⌝ }
-{
-    let accepted = level::sheet::test_sheet(starts, links, anchored, levels, layers);
-    match accepted {
-        table::Checked::Refused(refusal) => table::Checked::Refused(refusal),
-        table::Checked::Sound => {
-            if starts.len() - 1 <= x {
-                return table::refused(15, x);
-            }
-            if anchored[x] == 1 {
-                return table::refused(16, x);
-            }
-            table::Checked::Sound
-        }
-    }
 }
 
 // The refusals of a search with `room` places for marks, or `Sound`.
@@ -54,14 +27,14 @@ fn test_search(
 ) -> table::Checked
     ensures { λ r. ⌜ r ≡ searchOf (now (starts .entry)) (now (links .entry)) (now (anchored .entry)) (now (levels .entry)) (now (layers .entry)) x room ⌝ }
 {
-    let admitted = shells::input::admit(starts, links, anchored);
-    match admitted {
+    let tested = level::vertex::test_marking(starts, links, anchored, levels, layers, x, room);
+    match tested {
         table::Checked::Refused(refusal) => table::Checked::Refused(refusal),
         table::Checked::Sound => {
-            if room != starts.len() - 1 {
-                return table::refused(12, 0);
+            if anchored[x] == 1 {
+                return table::refused(16, x);
             }
-            test_start(starts, links, anchored, levels, layers, x)
+            table::Checked::Sound
         }
     }
 }

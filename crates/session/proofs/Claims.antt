@@ -27,8 +27,9 @@ use Rattle.shells.specs.Input.{graphOf, anchoredBy, admitOf, Admitted}
 use Rattle.shells.proofs.Laws.{checked-simple, went-through, admitted, admits}
 use Rattle.level.specs.SheetCheck.{Accepted}
 use Rattle.level.proofs.Laws.{accepts}
+use Rattle.level.proofs.Marking.{vertex-within, marking-vertex}
 use Rattle.search.specs.declared.operation.Searched.the-variants.{Found}
-use Rattle.search.proofs.Answers.{start-free, search-start, followers-found}
+use Rattle.search.proofs.Answers.{search-free, followers-found}
 use Rattle.step.specs.Rows.{sessionOf}
 use Rattle.session.specs.Run.{Slices, sized, admitRun, runOf, rowAt, ended}
 use Rattle.session.specs.Claim.{upto, set, searched, marks, redone, shown, Fresh, Plainly, Accepts, Refuses, Claim}
@@ -117,8 +118,8 @@ module _ (s l given requests : List ℕ) (accepted : admitOf s l given ≡ Sound
     search-at x b free =
         let lev = record-at i .levels in
         let lay = record-at i .layers in
-        followers-found s l bytes lev lay x n
-        (search-start s l bytes lev lay x n bytes-admitted refl ∙ start-free s l bytes lev lay x (accepts s l bytes lev lay (given-admitted .table) sheet) b (neqb (getD bytes x 0) 1 free))
+        let marking = marking-vertex s l bytes lev lay x n bytes-admitted refl ∙ vertex-within s l bytes lev lay x (accepts s l bytes lev lay (given-admitted .table) sheet) b in
+        followers-found s l bytes lev lay x n (search-free s l bytes lev lay x n marking (neqb (getD bytes x 0) 1 free))
 
     count-anchored : (v : ℕ) → v < n → T (set-at i v) → getD (record-at i .followers) v 0 ≡ 65535
     unfolding followerCount

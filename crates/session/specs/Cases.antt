@@ -16,7 +16,8 @@ use Rattle.anchored.specs.Step.{above, undisturbed, seesDisturbed, seesNew, rec
 use Rattle.anchored.specs.Session.{statusOf, rowOf, turn, after}
 use Rattle.shells.specs.Input.{admitOf}
 use Rattle.level.specs.SheetCheck.{sheetOf, checkSheetOf}
-use Rattle.search.specs.Answers.{startOf, searchOf, followersOf, marksOf}
+use Rattle.level.specs.Marking.{vertexOf, markingOf}
+use Rattle.search.specs.Answers.{searchOf, followersOf, marksOf}
 use Rattle.search.specs.declared.operation.Searched.the-variants.{Found}
 use Rattle.session.specs.Run.{admitRun, runOf, ended}
 
@@ -70,5 +71,5 @@ pub cases :
     -- J, and the defined sheet
     × (checkSheetOf (chain .starts) (chain .links) none (1 ∷ 1 ∷ 1 ∷ 1 ∷ []) (1 ∷ 2 ∷ 3 ∷ 1 ∷ []) ≡ refused 21 2)
     × (checkSheetOf (chain .starts) (chain .links) none (1 ∷ 1 ∷ 1 ∷ 1 ∷ []) (1 ∷ 2 ∷ 2 ∷ 1 ∷ []) ≡ Sound)
-unfolding tabulate below count any all firstFrom first largest ascending keep having rounds grow pairLe neighbors badStart beyond looped unsorted unreturned checkOf batch core level shell layer greater higher joins around component together follows followers followerCount firstStep onward candidates reached mark misplaced tooHigh tooLow tooLate above undisturbed seesDisturbed seesNew recomputed statusOf rowOf turn after admitOf sheetOf checkSheetOf startOf searchOf followersOf admitRun
+unfolding tabulate below count any all firstFrom first largest ascending keep having rounds grow pairLe neighbors badStart beyond looped unsorted unreturned checkOf batch core level shell layer greater higher joins around component together follows followers followerCount firstStep onward candidates reached mark misplaced tooHigh tooLow tooLate above undisturbed seesDisturbed seesNew recomputed statusOf rowOf turn after admitOf sheetOf checkSheetOf vertexOf markingOf searchOf followersOf admitRun
 cases = (refl, refl, refl, refl, refl, refl, refl, refl, refl, refl, refl, refl, refl)

@@ -1,5 +1,8 @@
 // Levels and layers are two kinds of counts, ordered only as a pair, level first.
 ghost use mathlib.Core.Path.{_≡_};
+ghost use Prim.Native.Nat.{_<_};
+ghost use lib.ListN.{length, getD};
+ghost use lib.Dec.{ltb};
 ghost use Rattle.finite.specs.Pairs.{pairLe};
 
 pub struct Level(pub u16);
@@ -38,4 +41,15 @@ impl Pair {
         }
         false
     }
+}
+
+// Whether the level of p is higher than that of v. Levels alone are compared as pairs of layer 0.
+pub fn is_higher(levels: &[u16], p: usize, v: usize) -> bool
+    requires { ⌜ p < length (now levels) ⌝ }
+    requires { ⌜ v < length (now levels) ⌝ }
+    ensures { λ r. ⌜ r ≡ ltb (getD (now (levels .entry)) v 0) (getD (now (levels .entry)) p 0) ⌝ }
+{
+    let own = Pair::new(levels[v], 0);
+    let other = Pair::new(levels[p], 0);
+    !own.at_or_above(other)
 }

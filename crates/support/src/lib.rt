@@ -2,14 +2,13 @@
 ghost use mathlib.Core.Path.{_≡_};
 ghost use Prim.Native.Nat.{ℕ, _≤_, _<_};
 ghost use lib.ListN.{length, getD, take};
-ghost use lib.Dec.{ltb};
 ghost use Rattle.finite.specs.Count.{count, In};
 ghost use Rattle.finite.specs.Search.{member};
 ghost use Rattle.table.specs.Table.{vertices, neighbors as neighborsOf, SoundTable};
 ghost use Rattle.shells.specs.Input.{Admitted};
 ghost use Rattle.candidates.specs.Reaching.{Queued};
 ghost use Rattle.support.specs.Striking.{supportsOf, marked, state, strikeOf, weakenOf, Weighed, Settled};
-use shells::pair::Pair;
+use shells::pair::is_higher;
 
 // Counts the support of each candidate and strikes out those of too little; how many these are.
 pub fn weigh(
@@ -96,17 +95,6 @@ fn supports(
         return false;
     }
     levels[p] == levels[v]
-}
-
-// Whether the level of p is higher than that of v.
-fn is_higher(levels: &[u16], p: usize, v: usize) -> bool
-    requires { ⌜ p < length (now levels) ⌝ }
-    requires { ⌜ v < length (now levels) ⌝ }
-    ensures { λ r. ⌜ r ≡ ltb (getD (now (levels .entry)) v 0) (getD (now (levels .entry)) p 0) ⌝ }
-{
-    let own = Pair::new(levels[v], 0);
-    let other = Pair::new(levels[p], 0);
-    !own.at_or_above(other)
 }
 
 // Strikes out until every candidate still in has enough support; how many are struck out in all.

@@ -1,53 +1,53 @@
 -- `operation::test_search` meets its contract. Assumes nothing.
 use mathlib.Core.Path.{_≡_, sym, _∙_}
+use native.Mathlib.Omega.{arith}
 use Rattle.table.specs.declared.Checked.the-variants.{Sound}
-use Rattle.shells.specs.Input.{admitOf}
-use Rattle.shells.proofs.Laws.{admitted}
-use Rattle.search.proofs.Answers.{search-refused, search-room, search-start}
+use Rattle.level.specs.Marking.{markingOf}
+use Rattle.level.proofs.Marking.{marking-sound}
+use Rattle.search.proofs.Answers.{search-refused, search-anchored, search-free}
 use borrow.Author.Needs.{needs}
 use Rattle.search.proofs.operation.test_search.Statement.{statement}
 use Rattle.search.proofs.operation.test_search.Tie as tie
 
-told : (c : tie.After-enum-told) → let args = c .before .before .before .before .before .before .before .before .args in admitOf (args .starts .now) (args .links .now) (args .anchored .now) ≡ Sound
-told c = sym (c .before .before .admit .ensures) ∙ c .enum-told .given .1
+told : (c : tie.After-enum-told) → let args = c .before .before .before .before .before .before .before .before .args in
+    markingOf (args .starts .now) (args .links .now) (args .anchored .now) (args .levels .now) (args .layers .now) (args .x) (args .room) ≡ Sound
+told c = sym (c .before .before .test-marking .ensures) ∙ c .enum-told .given .1
 
-admit-requires : tie.Need-admit-requires
-admit-requires c κs = search needs
+test-marking-requires : tie.Need-test-marking-requires
+test-marking-requires c κs = search needs
 
-enum-known-admitted : tie.Need-enum-known-admitted
-enum-known-admitted c = search needs
+enum-known-tested : tie.Need-enum-known-tested
+enum-known-tested c = search needs
 
 enum-told : tie.Need-enum-told
 enum-told c = search needs
 
-sub-if1 : tie.Need-sub-if1
-sub-if1 c = admitted _ _ _ (told c) .table .framed .some
+shared-slice-read-if1 : tie.Need-shared-slice-read-if1
+shared-slice-read-if1 c =
+    let promised = marking-sound _ _ _ _ _ _ _ (told (c .before)) in
+    omega (arith, promised .2, promised .0 .long)
 
 refused-requires : tie.Need-refused-requires
 refused-requires c κs = search needs
 
 returns : tie.Need-returns
-returns c = c .refused .ensures ∙ sym (search-room _ _ _ _ _ _ _ (told (c .before .before)) (c .before .if1 .taken))
-
-test-start-requires : tie.Need-test-start-requires
-test-start-requires c κs = admitted _ _ _ (told (c .before))
+returns c = c .refused .ensures ∙ sym (search-anchored _ _ _ _ _ _ _ (told (c .before .before .before)) (c .before .if1 .taken))
 
 returns-2 : tie.Need-returns-2
-returns-2 c = sym (search-refused _ _ _ _ _ _ _ (sym (c .before .before .before .admit .ensures) ∙ c .before .admitted .given .1))
+returns-2 c = sym (search-refused _ _ _ _ _ _ _ (sym (c .before .before .before .test-marking .ensures) ∙ c .before .tested .given .1))
 
 returns-3 : tie.Need-returns-3
-returns-3 c = c .test-start .ensures ∙ sym (search-start _ _ _ _ _ _ _ (told (c .before .before)) (c .before .if1 .left))
+returns-3 c = sym (search-free _ _ _ _ _ _ _ (told (c .before .before)) (c .if1 .left))
 
 pub test-search-spec : {M : Type 1} → statement M
 test-search-spec =
     tie.close
     (tie.spec
-    admit-requires
-    enum-known-admitted
+    test-marking-requires
+    enum-known-tested
     enum-told
-    sub-if1
+    shared-slice-read-if1
     refused-requires
     returns
-    test-start-requires
     returns-2
     returns-3)

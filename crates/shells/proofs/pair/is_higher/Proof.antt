@@ -1,12 +1,12 @@
--- `is_higher` meets its contract. Assumes nothing.
+-- `pair::is_higher` meets its contract. Assumes nothing.
 use mathlib.Core.Path.{_≡_, _∙_}
 use mathlib.Core.Bool.{not}
 use lib.ListN.{getD}
 use Rattle.finite.specs.Pairs.{pairLe}
 use Rattle.finite.proofs.Pairs.{pair-zero-not}
 use borrow.Author.Needs.{needs}
-use Rattle.support.proofs.is_higher.Statement.{statement}
-use Rattle.support.proofs.is_higher.Tie as tie
+use Rattle.shells.proofs.pair.is_higher.Statement.{statement}
+use Rattle.shells.proofs.pair.is_higher.Tie as tie
 
 mul-new : tie.Need-mul-new
 mul-new c = search needs
