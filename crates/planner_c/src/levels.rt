@@ -1,4 +1,4 @@
-// Levels, layers, components; the check of a sheet; the search. `tells` is what the number that answers the check tells of the sheet.
+// Levels, layers, components; the check of a sheet; the search; the collapse. `tells` is what the number that answers the check tells of the sheet.
 ghost use mathlib.Core.Path.{_≡_};
 ghost use lib.ListN.{length};
 ghost use Rattle.finite.specs.Count.{tabulate};
@@ -7,9 +7,11 @@ ghost use Rattle.anchored.specs.Core.{level, layer};
 ghost use Rattle.anchored.specs.Component.{component};
 ghost use Rattle.shells.specs.Input.{graphOf, anchoredBy};
 ghost use Rattle.level.specs.SheetCheck.{checkSheetOf, Tells};
+ghost use Rattle.level.specs.Marking.{markingOf};
 ghost use Rattle.level.specs.Answers.{workOf, written};
 ghost use Rattle.components.specs.Answers.{listOf, numbersOf, levelsOf, sizesOf, listed};
 ghost use Rattle.search.specs.Answers.{followersOf, marksOf, marked};
+ghost use Rattle.collapse.specs.Answers.{fallMarksOf};
 ghost use Rattle.numbers.specs.Numbers.{checkedAs, listedAs, searchedAs};
 use numbers::Answer;
 
@@ -75,4 +77,20 @@ pub extern "C" fn planner_followers(
     ensures marks { λ r. ⌜ now (marks .exit) ≡ marked (followersOf (now (starts .entry)) (now (links .entry)) (now (anchored .entry)) (now (levels .entry)) (now (layers .entry)) x (length (now (marks .entry)))) (marksOf (now (starts .entry)) (now (links .entry)) (now (anchored .entry)) x) (now (marks .entry)) ⌝ }
 {
     numbers::of_searched(search::followers(starts, links, anchored, levels, layers, x, marks))
+}
+
+#[no_mangle]
+pub extern "C" fn planner_collapse(
+    starts: &[u16],
+    links: &[u16],
+    anchored: &[u8],
+    levels: &[u16],
+    layers: &[u16],
+    x: usize,
+    marks: &mut [u8],
+) -> Answer
+    ensures answer { λ r. ⌜ r ≡ checkedAs (markingOf (now (starts .entry)) (now (links .entry)) (now (anchored .entry)) (now (levels .entry)) (now (layers .entry)) x (length (now (marks .entry)))) ⌝ }
+    ensures marks { λ r. ⌜ now (marks .exit) ≡ written (markingOf (now (starts .entry)) (now (links .entry)) (now (anchored .entry)) (now (levels .entry)) (now (layers .entry)) x (length (now (marks .entry)))) (fallMarksOf (now (starts .entry)) (now (links .entry)) (now (anchored .entry)) x) (now (marks .entry)) ⌝ }
+{
+    numbers::of_checked(collapse::collapse(starts, links, anchored, levels, layers, x, marks))
 }

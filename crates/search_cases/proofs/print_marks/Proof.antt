@@ -7,16 +7,13 @@ use Rattle.search_cases.proofs.print_marks.Statement.{statement}
 use Rattle.search_cases.proofs.print_marks.Tie as tie
 
 abbrev Inv-loop : tie.InvT-loop
-Inv-loop name marks v₀ v = v ≤ length marks
+Inv-loop name title marks v₀ v = v ≤ length marks
 
 abbrev μ-loop : tie.MeasureT-loop
-μ-loop name marks v₀ v = length marks - v
+μ-loop name title marks v₀ v = length marks - v
 
 text-requires : tie.Need-text-requires Inv-loop μ-loop
 text-requires c κs = search needs
-
-slice-aggregate-text : tie.Need-slice-aggregate-text Inv-loop μ-loop
-slice-aggregate-text c = search needs
 
 text-requires-2 : tie.Need-text-requires-2 Inv-loop μ-loop
 text-requires-2 c κs = search needs
@@ -28,7 +25,7 @@ shared-slice-read-number : tie.Need-shared-slice-read-number Inv-loop μ-loop
 shared-slice-read-number c = search needs
 
 cast-number : tie.Need-cast-number Inv-loop μ-loop
-cast-number c = omega (arith, c .shared-slice-known3 .given (c .before .before .loop .v))
+cast-number c = omega (arith, c .shared-slice-known4 .given (c .before .before .loop .v))
 
 number-requires : tie.Need-number-requires Inv-loop μ-loop
 number-requires c κs = search needs
@@ -52,7 +49,6 @@ print-marks-spec =
     Inv-loop
     μ-loop
     text-requires
-    slice-aggregate-text
     text-requires-2
     loop-holds
     shared-slice-read-number

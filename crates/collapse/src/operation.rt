@@ -1,0 +1,73 @@
+// A collapse as an operation: it tests its input, then marks those whose level falls when x and its edges are gone.
+ghost use mathlib.Core.Path.{_≡_};
+ghost use Prim.Native.Nat.{_≤_, _<_};
+ghost use lib.ListN.{length};
+ghost use Rattle.finite.specs.Count.{tabulate};
+ghost use Rattle.table.specs.Table.{vertices};
+ghost use Rattle.level.specs.Marking.{markingOf};
+ghost use Rattle.level.specs.Answers.{written};
+ghost use Rattle.collapse.specs.Cascade.{Leveled, fellBy};
+ghost use Rattle.collapse.specs.Answers.{fallMarksOf};
+
+// Marks with 1 those for whom fewer are kept than their level, and with 0 all others.
+fn copy_falls(levels: &[u16], support: &[u16; 1024], marks: &mut [u8])
+    requires { ⌜ length (now marks) ≤ length (now levels) ⌝ }
+    requires { ⌜ length (now marks) ≤ 1024 ⌝ }
+    ensures { λ _. ⌜ now (marks .exit) ≡ tabulate (fellBy (now (levels .entry)) (now (support .entry))) (length (now (marks .entry))) ⌝ }
+{
+    let mut v: usize = 0;
+    while v < marks.len() {
+        marks[v] = (support[v] < levels[v]) as u8;
+        v += 1;
+    }
+}
+
+// The marks of a collapse of x, on the defined levels.
+fn write_falls(
+    starts: &[u16],
+    links: &[u16],
+    anchored: &[u8],
+    levels: &[u16],
+    x: usize,
+    marks: &mut [u8],
+)
+    requires { ⌜ Leveled (now starts) (now links) (now anchored) (now levels) ⌝ }
+    requires { ⌜ x < vertices (now starts) ⌝ }
+    requires { ⌜ length (now marks) ≡ vertices (now starts) ⌝ }
+    ensures { λ _. ⌜ now (marks .exit) ≡ fallMarksOf (now (starts .entry)) (now (links .entry)) (now (anchored .entry)) x ⌝ }
+{
+    let mut support = [0u16; 1024];
+    crate::cascade::cascade(starts, links, anchored, levels, x, &mut support);
+    copy_falls(levels, &support, marks);
+}
+
+// Marks those whose level falls when x, anchored or not, and its edges are gone; a refusal leaves the marks as they are.
+pub fn collapse(
+    starts: &[u16],
+    links: &[u16],
+    anchored: &[u8],
+    levels: &[u16],
+    layers: &[u16],
+    x: usize,
+    marks: &mut [u8],
+) -> table::Checked
+    ensures answer { λ r. ⌜ r ≡ markingOf (now (starts .entry)) (now (links .entry)) (now (anchored .entry)) (now (levels .entry)) (now (layers .entry)) x (length (now (marks .entry))) ⌝ }
+    ensures marks { λ r. ⌜ now (marks .exit) ≡ written r (fallMarksOf (now (starts .entry)) (now (links .entry)) (now (anchored .entry)) x) (now (marks .entry)) ⌝ }
+{
+    let tested = level::vertex::test_marking(
+        starts,
+        links,
+        anchored,
+        levels,
+        layers,
+        x,
+        marks.len(),
+    );
+    match tested {
+        table::Checked::Refused(refusal) => table::Checked::Refused(refusal),
+        table::Checked::Sound => {
+            write_falls(starts, links, anchored, levels, x, marks);
+            table::Checked::Sound
+        }
+    }
+}
