@@ -11,6 +11,7 @@ fn main() -> std::io::Result<()> {
     lines.extend(measures::working(&seeds));
     lines.extend(measures::sheets(&seeds));
     lines.extend(measures::search(&seeds));
+    lines.extend(measures::collapse(&seeds));
     lines.extend(measures::session(&seeds));
     lines.extend(measures::rounds(&seeds));
     let table = report::table(&lines, seeds.len());

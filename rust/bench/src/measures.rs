@@ -3,7 +3,7 @@
 use crate::clock;
 use planner::{Input, Record};
 use pools::{Pool, Random};
-use reference::quick::{self, Cores};
+use reference::quick::{self, Cores, TwoWorkings};
 use std::hint::black_box;
 
 /// One comparison: what was measured against what, in microseconds for each seed.
@@ -209,6 +209,76 @@ pub fn search(seeds: &[u64]) -> Vec<Line> {
         lines[0].times.push((searches / 1000.0, fresh));
         lines[1].times.push((alone, fresh));
         lines[2].times.push((alone, cores / 1000.0));
+    }
+    lines.into()
+}
+
+/// A ring of 1,000 vertices, each joined to 7 hubs too, numbered at random; and one of the ring. All are of level 9, and with that one gone
+/// all fall, one after the other along the ring, so that each hub loses its neighbors one by one.
+fn ring_with_hubs(seed: u64) -> (Pool, usize) {
+    let mut numbers: Vec<usize> = (0..1007).collect();
+    Random(seed * 15485863).shuffle(&mut numbers);
+    let (hubs, ring) = numbers.split_at(7);
+    let along = (0..1000).map(|i| (ring[i], ring[(i + 1) % 1000]));
+    let spokes = hubs.iter().flat_map(|&u| ring.iter().map(move |&v| (u, v)));
+    (Pool::of_edges(1007, along.chain(spokes), vec![0; 1007]), ring[0])
+}
+
+/// One collapse for a vertex of a pool whose sheet is worked out.
+fn collapse_one(pool: &Pool, sheet: &Sheet, x: usize, marks: &mut [u8]) {
+    planner::collapse(input(pool), &sheet.levels, &sheet.layers, x, marks).unwrap();
+}
+
+pub fn collapse(seeds: &[u64]) -> Vec<Line> {
+    let one = "one collapse with its checks of table and sheet, average over all x";
+    let mut lines = [
+        Line::new(one, "the planner's fresh working"),
+        Line::new(one, "plain Rust: levels by buckets twice, the second time without x's edges, no checks, average over all x"),
+        Line::new("one collapse with its checks: a ring of 1,000 vertices, each joined to 7 hubs, x on the ring, all fall", "the planner's fresh working of the same pool"),
+    ];
+    for &seed in seeds {
+        let pools = several(seed);
+        let (sheets, mut again, none) = (worked(&pools), Sheet::room(1000), vec![false; 1000]);
+        let (mut marks, mut expected, mut two) = (vec![0u8; 1000], vec![0u8; 1000], TwoWorkings::default());
+        let [fresh, ours, theirs] = times(
+            3,
+            1,
+            [
+                &mut || pools.iter().for_each(|pool| again.work(pool)),
+                &mut || {
+                    for x in 0..1000 {
+                        pools.iter().zip(&sheets).for_each(|(pool, sheet)| collapse_one(pool, sheet, x, &mut marks));
+                    }
+                },
+                &mut || {
+                    for x in 0..1000 {
+                        pools.iter().for_each(|pool| two.collapse(black_box(plain(pool)), &none, x, &mut expected));
+                    }
+                },
+            ],
+        )
+        .map(|pass| pass / POOLS as f64);
+        for x in 0..1000 {
+            collapse_one(&pools[0], &sheets[0], x, &mut marks);
+            two.collapse(plain(&pools[0]), &none, x, &mut expected);
+            assert_eq!(marks, expected);
+        }
+        lines[0].times.push((ours / 1000.0, fresh));
+        lines[1].times.push((ours / 1000.0, theirs / 1000.0));
+
+        let (pools, starts): (Vec<Pool>, Vec<usize>) = (0..POOLS as u64).map(|i| ring_with_hubs(seed * 1000 + i)).unzip();
+        let (sheets, mut again, mut marks) = (worked(&pools), Sheet::room(1007), vec![0u8; 1007]);
+        let [fresh, ours] = times(
+            21,
+            1,
+            [
+                &mut || pools.iter().for_each(|pool| again.work(pool)),
+                &mut || (0..POOLS).for_each(|i| collapse_one(&pools[i], &sheets[i], starts[i], &mut marks)),
+            ],
+        )
+        .map(|pass| pass / POOLS as f64);
+        assert_eq!(marks.iter().filter(|&&mark| mark == 1).count(), 1006);
+        lines[2].times.push((ours, fresh));
     }
     lines.into()
 }

@@ -34,6 +34,10 @@ extern "C" {
         starts: *const u16, starts_len: usize, links: *const u16, links_len: usize, anchored: *const u8, anchored_len: usize,
         levels: *const u16, levels_len: usize, layers: *const u16, layers_len: usize, x: usize, marks: *mut u8, marks_len: usize,
     ) -> Answer;
+    pub fn planner_collapse(
+        starts: *const u16, starts_len: usize, links: *const u16, links_len: usize, anchored: *const u8, anchored_len: usize,
+        levels: *const u16, levels_len: usize, layers: *const u16, layers_len: usize, x: usize, marks: *mut u8, marks_len: usize,
+    ) -> Answer;
     pub fn planner_run(
         starts: *const u16, starts_len: usize, links: *const u16, links_len: usize, given: *const u8, given_len: usize,
         requests: *const u16, requests_len: usize, anchored: *mut u8, anchored_len: usize, levels: *mut u16, levels_len: usize,

@@ -126,6 +126,19 @@ pub fn followers(input: Input, levels: &[u16], layers: &[u16], x: usize, marks: 
     .result()
 }
 
+/// Who falls with x gone: marks 1 for each other vertex, not anchored, whose level would be lower were x and its edges not there, and 0
+/// for all others. x may be anchored.
+pub fn collapse(input: Input, levels: &[u16], layers: &[u16], x: usize, marks: &mut [u8]) -> Result<(), Refusal> {
+    let Input { starts, links, anchored } = input;
+    unsafe {
+        exports::planner_collapse(
+            starts.as_ptr(), starts.len(), links.as_ptr(), links.len(), anchored.as_ptr(), anchored.len(),
+            levels.as_ptr(), levels.len(), layers.as_ptr(), layers.len(), x, marks.as_mut_ptr(), marks.len(),
+        )
+    }
+    .done()
+}
+
 /// A session: the input's bytes are those at the start, the record's those at the end.
 pub fn run(input: Input, requests: &[u16], record: &mut Record) -> Result<(), Refusal> {
     let Input { starts, links, anchored: given } = input;

@@ -1,106 +1,14 @@
-//! Every operation on a table, anchors and a level sheet against the naive working: on all small graphs and many random ones, with
+//! The operations on a table, anchors and a level sheet against the naive working: on all small graphs and many random ones, with
 //! right and with wrong lengths, sheets and tables; large graphs against the quick working. PLANNER_LONG=1 runs more.
 
 mod shared;
 
 use planner::Refusal;
 use pools::{Pool, Random};
-use reference::{quick, Anchoring, Graph, Search, Sheet};
-use shared::{broken, held, input, plain, refusal, small_pools, wrong_lengths, DAMAGES};
+use reference::Anchoring;
+use shared::cases::{Case, Defined, WRONG_ENTRIES};
+use shared::{broken, held, input, small_pools, wrong_lengths, DAMAGES};
 use std::collections::{BTreeMap, BTreeSet};
-
-/// A search from a vertex of a pool, whose graph and defined sheet are worked out.
-type Searching = fn(&Pool, &Graph, &Anchoring, usize) -> Search;
-
-/// What is defined for a sound pool; the sheet is worked out once for all calls.
-struct Defined {
-    graph: Graph,
-    at: Anchoring,
-    search: Searching,
-}
-
-/// A pool, and what is defined for it or why it is refused.
-struct Case<'a> {
-    pool: &'a Pool,
-    defined: Result<Defined, Refusal>,
-}
-
-impl Case<'_> {
-    fn new(pool: &Pool, sheet: impl Fn(&Graph, &[bool]) -> Sheet, search: Searching) -> Case<'_> {
-        let admitted = reference::admit(&pool.starts, &pool.links, &pool.anchored).map_err(refusal);
-        let defined = admitted.map(|(graph, anchored)| {
-            let sheet = sheet(&graph, &anchored);
-            Defined { graph, at: Anchoring { anchored, sheet }, search }
-        });
-        Case { pool, defined }
-    }
-
-    fn naive(pool: &Pool) -> Case<'_> {
-        Case::new(pool, reference::sheet, |_, graph, at, x| reference::search(graph, at, x))
-    }
-
-    /// By the quick working.
-    fn quick(pool: &Pool) -> Case<'_> {
-        Case::new(pool, |_, set| quick::sheet(plain(pool), set), |pool, _, at, x| quick::search(plain(pool), &at.anchored, &at.sheet, x))
-    }
-
-    /// What is defined, where the lent slices have the right length.
-    fn lent(&self, lengths: &[usize]) -> Result<&Defined, Refusal> {
-        let defined = self.defined.as_ref().map_err(|e| *e)?;
-        if lengths.iter().any(|&length| length != self.pool.size()) {
-            return Err(Refusal { number: 12, place: 0 });
-        }
-        Ok(defined)
-    }
-
-    /// The defined levels and layers, or as many numbers where nothing is defined.
-    fn sheet(&self) -> [Vec<u16>; 2] {
-        match &self.defined {
-            Ok(Defined { at, .. }) => [at.sheet.level.clone(), at.sheet.layer.clone()],
-            Err(_) => [vec![0; self.pool.size()], vec![1; self.pool.size()]],
-        }
-    }
-
-    /// Sheets other than the given one: a half too short or too long, a number one too high or too low, 0, or the greatest.
-    fn wrong_sheets(&self) -> impl Iterator<Item = [Vec<u16>; 2]> + '_ {
-        let n = self.pool.size();
-        (0..2).flat_map(move |half| {
-            let lengths = wrong_lengths(n).map(move |length| {
-                let mut sheet = self.sheet();
-                sheet[half].resize(length, 0);
-                sheet
-            });
-            let numbers = (0..n).flat_map(move |v| {
-                let sheet = self.sheet();
-                wrong_numbers(sheet[half][v]).into_iter().map(move |number| {
-                    let mut wrong = sheet.clone();
-                    wrong[half][v] = number;
-                    wrong
-                })
-            });
-            lengths.chain(numbers)
-        })
-    }
-
-    /// The given sheet with up to four numbers changed, so that several tests may fail at once.
-    fn damaged_sheet(&self, random: &mut Random) -> [Vec<u16>; 2] {
-        let mut sheet = self.sheet();
-        for _ in 0..1 + random.below(4) {
-            if let (half, Some(v)) = (random.below(2), random.below(self.pool.size() + 1).checked_sub(1)) {
-                let wrong: Vec<u16> = wrong_numbers(sheet[half][v]).into_iter().collect();
-                sheet[half][v] = wrong[random.below(wrong.len())];
-            }
-        }
-        sheet
-    }
-}
-
-/// Wrong in each way: one too high or too low, 0, or the greatest.
-fn wrong_numbers(right: u16) -> BTreeSet<u16> {
-    let mut numbers = BTreeSet::from([right.wrapping_add(1), right.wrapping_sub(1), 0, u16::MAX]);
-    numbers.remove(&right);
-    numbers
-}
 
 /// How many calls of each operation gave each number, 0 where it accepted; of the sheets refused with each number, how many have a place
 /// other than 0, and how many a level above the defined one; how many component lists have two components of one level, and how many
@@ -171,9 +79,8 @@ impl Compared {
     /// refused with 20 or 21, has a level above the defined one.
     fn check_sheet(&mut self, case: &Case, sheet: &[Vec<u16>; 2]) -> Result<(), Refusal> {
         let [levels, layers] = sheet;
-        let tests = |Defined { graph, at, .. }: &Defined| reference::check_sheet(graph, &at.anchored, levels, layers).map_err(refusal);
         let answer = planner::check_sheet(input(case.pool), levels, layers);
-        assert_eq!(answer, case.lent(&[]).and_then(tests), "{:?} {sheet:?}", case.pool);
+        assert_eq!(answer, case.checked(sheet), "{:?} {sheet:?}", case.pool);
         self.note("check_sheet", &answer);
         if let Err(Refusal { number, place: 1.. }) = answer {
             *self.sheets_placed.entry(number).or_default() += 1;
@@ -195,7 +102,7 @@ impl Compared {
             match case.pool.anchored.get(x) {
                 None => Err(Refusal { number: 15, place: x as u64 }),
                 Some(1) => Err(Refusal { number: 16, place: x as u64 }),
-                Some(_) => Ok((defined.search)(case.pool, &defined.graph, &defined.at, x)),
+                Some(_) => Ok((defined.working.search)(case.pool, defined, x)),
             }
         });
         let before: Vec<u8> = (0..length).map(|i| 100 + i as u8 % 100).collect();
@@ -257,9 +164,8 @@ impl Compared {
     }
 }
 
-/// Of the defined sheets of all graphs of up to 5 vertices, with one number wrong in each way: how many are refused with each number,
-/// and of these how many at a place other than 0; all that overstate are refused with 19. The figures were counted apart from this test.
-const WRONG_ENTRIES: [(u64, usize, usize); 4] = [(14, 420_365, 335_700), (19, 232_950, 181_905), (20, 109_256, 86_652), (21, 141_850, 113_270)];
+/// Of the defined sheets of all graphs of up to 5 vertices, with one number wrong in each way: how many overstate; all are refused with 19.
+/// The figure was counted apart from this test.
 const OVERSTATING: [(u64, usize); 1] = [(19, 168_146)];
 
 #[test]

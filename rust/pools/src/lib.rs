@@ -86,15 +86,19 @@ impl Pool {
         Pool::of_edges(n, edges, anchored)
     }
 
+    /// Every graph of n vertices, none anchored.
+    pub fn all_free(n: usize) -> impl Iterator<Item = Pool> {
+        let pairs: Vec<(usize, usize)> = (0..n).flat_map(|u| (u + 1..n).map(move |v| (u, v))).collect();
+        (0..1u32 << pairs.len()).map(move |graph| {
+            let edges = (0..pairs.len()).filter(|i| graph >> i & 1 == 1).map(|i| pairs[i]);
+            Pool::of_edges(n, edges, vec![0; n])
+        })
+    }
+
     /// Every graph of n vertices with every anchor set.
     pub fn all(n: usize) -> impl Iterator<Item = Pool> {
-        let pairs: Vec<(usize, usize)> = (0..n).flat_map(|u| (u + 1..n).map(move |v| (u, v))).collect();
-        (0..1u32 << pairs.len()).flat_map(move |graph| {
-            let edges: Vec<_> = (0..pairs.len()).filter(|i| graph >> i & 1 == 1).map(|i| pairs[i]).collect();
-            (0..1u32 << n).map(move |set| {
-                let anchored = (0..n).map(|v| (set >> v & 1) as u8).collect();
-                Pool::of_edges(n, edges.iter().copied(), anchored)
-            })
+        Pool::all_free(n).flat_map(move |pool| {
+            (0..1u32 << n).map(move |set| Pool { anchored: (0..n).map(|v| (set >> v & 1) as u8).collect(), ..pool.clone() })
         })
     }
 

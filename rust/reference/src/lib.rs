@@ -1,5 +1,5 @@
-//! The anchored core worked out naively from the sentences of documents 01 and 02: cores by repeated deletion, lifts by a second working,
-//! sessions with everything fresh. Nothing here follows the planner's own code.
+//! The anchored core worked out naively from the sentences of documents 01 and 02: cores by repeated deletion, lifts and falls by a second
+//! working, sessions with everything fresh. Nothing here follows the planner's own code.
 
 pub mod quick;
 
@@ -255,6 +255,19 @@ pub fn search(graph: &Graph, at: &Anchoring, x: usize) -> Search {
     let hit = candidates(graph, at, x);
     let marks = (0..graph.size()).map(|v| if up[v] { 2 } else { hit[v] as u8 }).collect();
     Search { marks, followers: count(&up), candidates: count(&hit) }
+}
+
+/// The graph with no edges at x.
+fn without(graph: &Graph, x: usize) -> Graph {
+    let list = |v: usize| graph.neighbors[v].iter().copied().filter(|&u| u != x && v != x).collect();
+    Graph { neighbors: (0..graph.size()).map(list).collect() }
+}
+
+/// Marks 1 for the others whose level would fall were x and its edges gone, by two fresh workings; 0 for x and who is anchored.
+pub fn collapse(graph: &Graph, anchored: &[bool], x: usize) -> Vec<u8> {
+    let before = sheet(graph, anchored).level;
+    let after = sheet(&without(graph, x), anchored).level;
+    (0..graph.size()).map(|v| (v != x && !anchored[v] && after[v] < before[v]) as u8).collect()
 }
 
 fn follower_count(graph: &Graph, at: &Anchoring, x: usize) -> u16 {

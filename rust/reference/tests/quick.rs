@@ -12,6 +12,9 @@ fn compare(pool: &Pool, requests: &[u16], rounds: usize) {
     for x in (0..pool.size()).filter(|&x| !set[x]) {
         assert_eq!(quick::search(plain, &set, &sheet, x), reference::search(&graph, &at, x), "{pool:?} {x}");
     }
+    for x in 0..pool.size() {
+        assert_eq!(quick::collapse(plain, &set, x), reference::collapse(&graph, &set, x), "{pool:?} {x}");
+    }
     assert_eq!(quick::session(plain, &set, requests), reference::session(&graph, &set, requests), "{pool:?} {requests:?}");
     assert_eq!(quick::rounds(plain, &set, rounds), reference::rounds(&graph, &set, rounds), "{pool:?}");
 }

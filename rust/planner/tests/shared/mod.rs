@@ -1,6 +1,8 @@
 //! What the tests of all operations share; each of them uses some of it.
 #![allow(dead_code)]
 
+pub mod cases;
+
 use planner::{Input, Refusal};
 use pools::Pool;
 use reference::quick;
