@@ -19,12 +19,12 @@ use Rattle.finite.proofs.Count.{count-mono, count-cong, in-take-more}
 use Rattle.finite.proofs.Search.{any-i, any-e, member-i, member-e, member-past}
 use Rattle.anchored.specs.Graph.{Graph, Simple}
 use Rattle.anchored.specs.Core.{Solid, core, level, higher}
-use Rattle.anchored.specs.Component.{Joined, stay, hop, component, together}
+use Rattle.anchored.specs.Component.{stay, hop, component, together}
 use Rattle.anchored.specs.Followers.{adding}
 use Rattle.anchored.specs.Collapse.{collapse, falls, exposed}
 use Rattle.anchored.proofs.Core.{core-solid, core-largest, core-anchored, level-in, level-max, in-core}
 use Rattle.anchored.proofs.Anchor.{free-of, other-of, free-adding}
-use Rattle.anchored.proofs.Component.{joined-level, component-iff}
+use Rattle.anchored.proofs.Component.{component-iff}
 use Rattle.anchored.proofs.Collapse.{in-gone, collapse-simple, count-gone, other-i, level-sinks, fall-by-one}
 
 module _ (G : Graph) (A : ℕ → Bool) (x : ℕ) where
@@ -227,59 +227,34 @@ module _ (G : Graph) (L : Simple G) (A : ℕ → Bool) (x : ℕ) where
       let alike : lev w ≡ lev x = omega (arith, high, nleb→lt (suc (lev w)) (lev x) m) in
       or-l (together G A w x) _ (and-i (not (A x)) _ t (eqb-of (component G A w) (component G A x) (joined-same w x b bx a t back alike)))))
 
-  module _ (bx : x < G .size) (v : ℕ) (bv : v < G .size) (av : T (not (A v))) where
-    abbrev mine : ℕ → Bool
-    mine = together G A v
+  -- x, and those of exposed components who fall
+  near : ℕ → Bool
+  near p = eqb x p || (falls G A x p && exposed G A x p)
 
-    together-e : (w : ℕ) → w < G .size → T (mine w) → T (not (A w)) × Joined G A v w
-    unfolding together
-    together-e w b h = let free = and-l (not (A w)) _ h in (free, component-iff G L A v w bv b av free .0 (eqb→eq (component G A v) (component G A w) (and-r (not (A w)) _ h)))
-
-    together-i : (w : ℕ) → w < G .size → T (not (A w)) → Joined G A v w → T (mine w)
-    unfolding together
-    together-i w b a j = and-i (not (A w)) _ a (eqb-of (component G A v) (component G A w) (component-iff G L A v w bv b av a .1 j))
-
-    -- an edge inside a level stays inside the component
-    along : (w p : ℕ) → w < G .size → In p (G .neighbors w) → T (mine w) → T (not (A p)) → lev p ≡ lev w → T (mine p)
-    along w p b i h a e = let t = together-e w b h in
-        let bp = L .range w p b i in
-        together-i p bp a (hop (t .1) bp a (L .symmetric w p b i) (sym e))
-
-    -- x, out, and those who fall outside v's component
-    elsewhere : ℕ → Bool
-    elsewhere p = eqb x p || (falls G A x p && not (mine p))
-
-    module _ (hidden : T (not (exposed G A x v))) where
-      -- x holds nobody in v's component
-      unreached : (w : ℕ) → w < G .size → T (mine w) → In x (G .neighbors w) → T (A x || leb (lev w) (lev x)) → ⊥
-      unreached w b h i r =
-          let t = together-e w b h in
-          T-not (exposed G A x v) hidden (exposed-same w v (sym (component-iff G L A v w bv b av (t .0) .1 (t .1))) (sym (joined-level G L A v w (t .1))) (exposed-beside bx w b (t .0) i r))
-
-      elsewhere-held : Held G A x elsewhere
-      unfolding elsewhere
-      elsewhere-held w b a n = split (mine w)
-          (λ h. le-trans (held-before w b (free-of A x w a)) (count-mono (holds G A x (λ p. false) w) (holds G A x elsewhere w) (G .neighbors w) (λ p i g.
-          let near = and-l (A p || leb (lev w) (lev p)) _ g in
-          and-i (A p || leb (lev w) (lev p)) _ near (nand-i (elsewhere p) _ (λ o. not-T (eqb x p || eqb (lev p) (lev w)) (λ q.
-          let self : T (eqb x p) → ⊥ = λ e.
-          let z : p ≡ x = sym (eqb→eq x p e) in
-          unreached w b h (subst (λ y. In y (G .neighbors w)) z i) (subst (λ y. T (A y || leb (lev w) (lev y))) z near) in
-          or-e (eqb x p) _ q self (λ e. or-e (eqb x p) _ o self (λ f.
-          T-not (mine p) (and-r (falls G A x p) _ f) (along w p b i h (free-of A x p (fall-e p (and-l (falls G A x p) _ f) .0)) (eqb→eq (lev p) (lev w) e))))))))))
-          (λ h.
-          let other = not-or (eqb x w) _ n in
-          let still : T (not (falls G A x w)) = not-T (falls G A x w) (λ f. T-not (not (mine w)) (nand (falls G A x w) _ (other .1) f) h) in
-          le-trans (stays-held w b a (or-not (eqb x w) _ (other .0) still)) (count-mono (holds G A x (fallen G A x) w) (holds G A x elsewhere w) (G .neighbors w) (λ p i.
-          holds-anti elsewhere (fallen G A x) w p (λ o. or-e (eqb x p) _ o (or-l (eqb x p) _) (λ f. or-r (eqb x p) _ (and-l (falls G A x p) _ f))))))
+  -- they leave all others enough: whom one of them held is exposed
+  near-held : x < G .size → Held G A x near
+  unfolding near
+  near-held bx w b a n = split (exposed G A x w)
+      (λ e.
+      let other = not-or (eqb x w) _ n in
+      let still : T (not (falls G A x w)) = not-T (falls G A x w) (λ f. T-not (exposed G A x w) (nand (falls G A x w) _ (other .1) f) e) in
+      le-trans (stays-held w b a (or-not (eqb x w) _ (other .0) still)) (count-mono (holds G A x (fallen G A x) w) (holds G A x near w) (G .neighbors w) (λ p i.
+      holds-anti near (fallen G A x) w p (λ o. or-e (eqb x p) _ o (or-l (eqb x p) _) (λ f. or-r (eqb x p) _ (and-l (falls G A x p) _ f))))))
+      (λ e.
+      let free = free-of A x w a in
+      le-trans (held-before w b free) (count-mono (holds G A x (λ p. false) w) (holds G A x near w) (G .neighbors w) (λ p i g.
+      let up = and-l (A p || leb (lev w) (lev p)) _ g in
+      let by-x : T (eqb x p) → T (exposed G A x w) = λ q.
+      let z = sym (eqb→eq x p q) in
+      exposed-beside bx w b free (subst (λ y. In y (G .neighbors w)) z i) (subst (λ y. T (A y || leb (lev w) (lev y))) z up) in
+      and-i (A p || leb (lev w) (lev p)) _ up (nand-i (near p) _ (λ o. not-T (eqb x p || eqb (lev p) (lev w)) (λ q.
+      T-not (exposed G A x w) e (or-e (eqb x p) _ o by-x (λ f. or-e (eqb x p) _ q by-x (λ k.
+      exposed-along p w (L .range w p b i) b (free-of A x p (fall-e p (and-l (falls G A x p) _ f) .0)) free i (eqb→eq (lev p) (lev w) k) (and-r (falls G A x p) _ f))))))))))
 
   -- those who fall are in x's own component, or in lower ones that x has a neighbor in; for an anchored x in any that it has one in
   pub falls-exposed : x < G .size → (v : ℕ) → v < G .size → T (falls G A x v) → T (exposed G A x v)
-  unfolding elsewhere
+  unfolding near
   falls-exposed bx v b f = split (exposed G A x v) (λ t. t) (λ t.
       let a = fall-e v f .0 in
-      let av = free-of A x v a in
-      let out = elsewhere bx v b av in
-      let inside : T (not (out v)) = or-not (eqb x v) _ (not-T (eqb x v) (λ e. other-of A x v a (eqb→eq x v e))) (nand-i (falls G A x v) _ (λ g.
-      not-T (not (together G A v v)) (λ m. T-not (together G A v v) m (together-i bx v b av v b av (stay refl))))) in
-      absurd (T-not (falls G A x v) (held-stays out (or-l (eqb x x) _ (eqb-refl x)) (elsewhere-held bx v b av t) v b a inside) f))
+      let apart : T (not (near v)) = or-not (eqb x v) _ (not-T (eqb x v) (λ e. other-of A x v a (eqb→eq x v e))) (nand-i (falls G A x v) _ (λ g. t)) in
+      absurd (T-not (falls G A x v) (held-stays near (or-l (eqb x x) _ (eqb-refl x)) (near-held bx) v b a apart) f))

@@ -15,6 +15,7 @@ use Rattle.finite.proofs.Tests.{and-i, and-l, and-r, or-r, or-e, split, same, n
 use Rattle.finite.proofs.Count.{in-at, in-append, distinct-snoc, distinct-length, distinct-other, count-length, count-cong}
 use Rattle.finite.proofs.Search.{member-yes, count-one}
 use Rattle.table.specs.Table.{vertices, neighbors}
+use Rattle.table.proofs.Laws.{neighbors-few}
 use Rattle.anchored.specs.Graph.{Graph, Simple}
 use Rattle.anchored.specs.Core.{level}
 use Rattle.anchored.specs.Followers.{adding}
@@ -74,7 +75,7 @@ module _ {s l a levels : List ℕ} (h : Leveled s l a levels) (x : ℕ) where
   left-small : (out : ℕ → ℕ → Bool) (w : ℕ) → w < vertices s → left out w < 65535
   left-small out w b =
       let table = h .admitted .table in
-      omega (arith, table .small, count-length (holdsOf levels x (out w) w) (neighbors s l w), distinct-length (neighbors s l w) (vertices s) (table .distinct w b) (λ p. table .range w p b))
+      omega (arith, table .small, count-length (holdsOf levels x (out w) w) (neighbors s l w), neighbors-few s l table w b)
 
   -- ---- others out, and the list of those fallen
 

@@ -286,6 +286,25 @@ fn small_examples() {
     assert_eq!(Compared::default().collapse(&Case::naive(&empty), &[vec![], vec![]], 0, 0), Err(Refusal { number: 15, place: 0 }));
 }
 
+/// docs/COLLAPSE.md: what it says of its pools is what the planner answers, and the two workings.
+#[test]
+fn collapse_page() {
+    let page = std::fs::read_to_string(std::path::Path::new(env!("CARGO_MANIFEST_DIR")).join("../../docs/COLLAPSE.md")).unwrap();
+    let (mut compared, mut rows) = (Compared::default(), 0);
+    for row in page.lines().filter(|line| line.starts_with("| `")) {
+        let cells: Vec<&str> = row.split('`').skip(1).step_by(2).collect();
+        let [pairs, anchored, x, answer] = cells.as_slice() else { panic!("{row}") };
+        let numbers = |cell: &str| cell.split([' ', '-']).map(|word| word.parse().unwrap()).collect::<Vec<usize>>();
+        let bytes = |cell: &str| numbers(cell).into_iter().map(|number| number as u8).collect::<Vec<u8>>();
+        let pool = Pool::of_edges(4, numbers(pairs).chunks(2).map(|pair| (pair[0], pair[1])), bytes(anchored));
+        let case = Case::naive(&pool);
+        let told = compared.collapse(&case, &case.sheet(), numbers(x)[0], 4);
+        assert_eq!(told.unwrap_or_else(|e| vec![e.number as u8, e.place as u8]), bytes(answer), "{row}");
+        rows += 1;
+    }
+    assert_eq!((rows, compared.answers), (9, [(0, 8), (15, 1)].into()));
+}
+
 #[test]
 fn random_graphs() {
     let (mut sound, mut several, mut damaged) = (Compared::default(), Compared::default(), Compared::default());

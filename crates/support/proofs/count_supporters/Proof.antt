@@ -4,9 +4,9 @@ use Prim.Native.Nat.{_-_, _≤_, _<_}
 use native.Mathlib.Omega.{arith}
 use lib.ListN.{length, take, getD}
 use Rattle.finite.specs.Count.{bit, In, count}
-use Rattle.finite.proofs.Count.{bit-le, in-at, count-start, count-more, count-end, distinct-length}
+use Rattle.finite.proofs.Count.{bit-le, in-at, count-start, count-more, count-end}
 use Rattle.table.specs.Table.{vertices}
-use Rattle.table.specs.Table.{neighbors as neighborsOf}
+use Rattle.table.proofs.Laws.{neighbors-few}
 use Rattle.support.specs.Striking.{supportsOf, marked}
 use Rattle.support.proofs.count_supporters.Statement.{statement}
 use Rattle.support.proofs.count_supporters.Tie as tie
@@ -33,10 +33,8 @@ few : (c : tie.After-neighbors Inv-loop μ-loop) → length (c .neighbors .resul
 few c =
     let start = c .before .before .before .before .before in
     let table = start .pre .0 .table in
-    let v = start .args .v in
-    let b = start .pre .1 .1 in
     let e = c .neighbors .ensures in
-    rw e (omega (arith, table .small, distinct-length (neighborsOf (start .args .starts .now) (start .args .links .now) v) (vertices (start .args .starts .now)) (table .distinct v b) (λ w. table .range v w b)))
+    rw e (omega (arith, table .small, neighbors-few (start .args .starts .now) (start .args .links .now) table (start .args .v) (start .pre .1 .1)))
 
 neighbors-requires : tie.Need-neighbors-requires Inv-loop μ-loop
 neighbors-requires c κs =

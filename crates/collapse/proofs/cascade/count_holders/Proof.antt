@@ -6,9 +6,9 @@ use native.Mathlib.Omega.{arith}
 use lib.ListN.{length, take, getD}
 use Rattle.finite.specs.Count.{bit, In, count}
 use Rattle.finite.proofs.Tests.{not-ltb}
-use Rattle.finite.proofs.Count.{bit-le, in-at, count-start, count-more, count-end, distinct-length}
+use Rattle.finite.proofs.Count.{bit-le, in-at, count-start, count-more, count-end}
 use Rattle.table.specs.Table.{vertices}
-use Rattle.table.specs.Table.{neighbors as neighborsOf}
+use Rattle.table.proofs.Laws.{neighbors-few}
 use Rattle.collapse.specs.Cascade.{upholds}
 use borrow.Author.Needs.{needs}
 use Rattle.collapse.proofs.cascade.count_holders.Statement.{statement}
@@ -34,11 +34,8 @@ vertex c =
 few : (c : tie.After-neighbors Inv-loop μ-loop) → length (c .neighbors .result .now) ≤ 1024
 few c =
     let start = c .before .before .before .before in
-    let table = start .pre .0 in
-    let w = start .args .w in
-    let b = start .pre .1 .1 in
     let e = c .neighbors .ensures in
-    rw e (omega (arith, table .small, distinct-length (neighborsOf (start .args .starts .now) (start .args .links .now) w) (vertices (start .args .starts .now)) (table .distinct w b) (λ p. table .range w p b)))
+    rw e (omega (arith, start .pre .0 .small, neighbors-few (start .args .starts .now) (start .args .links .now) (start .pre .0) (start .args .w) (start .pre .1 .1)))
 
 neighbors-requires : tie.Need-neighbors-requires Inv-loop μ-loop
 neighbors-requires c κs =
