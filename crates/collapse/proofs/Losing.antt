@@ -8,8 +8,8 @@ use native.Mathlib.Numerals.{add-one}
 use native.Mathlib.Omega.{arith}
 use lib.ListN.{take, getD, set, length-set}
 use lib.Seq.{length-take-le, take-suc-set, getD-take, getD-set-same, getD-set-other}
-use lib.Dec.{T, leb, eqb, le→leb, T-not, not-T, eqb→eq}
-use borrow.Author.Tests.{ne-eqb}
+use lib.Dec.{T, leb, eqb, le→leb, T-not, not-T, eqb→eq, nltb→le}
+use borrow.Author.Tests.{ne-eqb, le-ltb}
 use Rattle.finite.specs.Count.{bit, count, In}
 use Rattle.finite.proofs.Tests.{and-i, and-l, and-r, or-r, or-e, split, same, nand, true-of, of-true, false-of, neqb}
 use Rattle.finite.proofs.Count.{in-at, in-append, distinct-snoc, distinct-length, distinct-other, count-length, count-cong}
@@ -22,10 +22,10 @@ use Rattle.anchored.specs.Followers.{adding}
 use Rattle.anchored.specs.Collapse.{exposed}
 use Rattle.anchored.proofs.Core.{level-lt, level-anchored}
 use Rattle.anchored.proofs.Anchor.{free-of}
-use Rattle.anchored.proofs.Falls.{holds, fallen, fall-e, struck-falls, exposed-along, exposed-beside, falls-exposed}
+use Rattle.anchored.proofs.Falls.{holds, fallen, fall-e, held-before, struck-falls, exposed-along, exposed-beside, falls-exposed}
 use Rattle.shells.specs.Input.{graphOf, anchoredBy}
 use Rattle.shells.proofs.Laws.{simple}
-use Rattle.collapse.specs.Cascade.{Leveled, upholds, lapses, holdsOf, loses, reliesOf, heldBy, tight, Falling}
+use Rattle.collapse.specs.Cascade.{Leveled, upholds, lapses, holdsOf, loses, fell, reliesOf, heldBy, tight, Falling}
 
 -- between two states of being out: u is withdrawn from w, and nobody else from anybody
 pub record Withdraws (out next : ℕ → ℕ → Bool) (u w : ℕ) : Type 0 where
@@ -38,6 +38,11 @@ kept-by : (a b : Bool) → T (not (a && b)) → a && not (false && b) ≡ a && n
 kept-by true true t = absurd t
 kept-by true false t = refl
 kept-by false b t = refl
+
+-- nobody out
+all-in : (a b : Bool) → a && not (false && b) ≡ a
+all-in true b = refl
+all-in false b = refl
 
 module _ {s l a levels : List ℕ} (h : Leveled s l a levels) (x : ℕ) where
   abbrev G : Graph
@@ -77,11 +82,26 @@ module _ {s l a levels : List ℕ} (h : Leveled s l a levels) (x : ℕ) where
       let table = h .admitted .table in
       omega (arith, table .small, count-length (holdsOf levels x (out w) w) (neighbors s l w), neighbors-few s l table w b)
 
+  -- where nobody is withdrawn all of no lower level hold w, and these are enough
+  pub nobody-out : (w : ℕ) → count (upholds levels w) (neighbors s l w) ≡ count (holdsOf levels x (λ p. false) w) (neighbors s l w)
+  unfolding holdsOf
+  nobody-out w = count-cong (upholds levels w) (holdsOf levels x (λ p. false) w) (neighbors s l w) (λ p i. sym (all-in (upholds levels w p) (lapses levels x w p)))
+
+  enough-first : (w : ℕ) → w < vertices s → T (not (A w)) → getD levels w 0 ≤ count (upholds levels w) (neighbors s l w)
+  enough-first w b f = omega (arith, nobody-out w, left-is (λ p. false) w b f, held-before G L A x w b f, h .hold w b)
+
+  -- who is not found to fall is held by enough
+  pub held-stands : (support : List ℕ) (w : ℕ) → w < vertices s → T (not (A w)) → T (not (fell levels support w)) → getD levels w 0 ≤ heldBy levels s l support w
+  unfolding heldBy
+  held-stands support w b f t = split (eqb (getD support w 0) 65535)
+      (λ e. let fresh = true-of (eqb (getD support w 0) 65535) e in rw fresh (enough-first w b f))
+      (λ e. let counted = false-of (eqb (getD support w 0) 65535) e in rw counted (nltb→le (getD support w 0) (getD levels w 0) t))
+
   -- ---- others out, and the list of those fallen
 
   module _ {out : ℕ → ℕ → Bool} {support queue : List ℕ} {end : ℕ} where
     -- beside others out, as long as as many hold each vertex
-    falling-beside : (next : ℕ → ℕ → Bool) → ((w p : ℕ) → T (next w p) → In p (take end queue)) → ((w : ℕ) → w < vertices s → T (not (adding A x w)) → left out w ≡ left next w)
+    falling-beside : (next : ℕ → ℕ → Bool) → ((w p : ℕ) → T (next w p) → In p (take end queue)) → ((w : ℕ) → w < vertices s → T (not (adding A x w)) → (In w (take end queue) → ⊥) → left out w ≡ left next w)
         → Falling s l a levels x out support queue end → Falling s l a levels x next support queue end
     falling-beside next f e k = record {
       support-long = k .support-long;
@@ -91,8 +111,8 @@ module _ {s l a levels : List ℕ} (h : Leveled s l a levels) (x : ℕ) where
       self = k .self;
       down = k .down;
       within = f;
-      kept = λ w b m. k .kept w b m ∙ e w b m;
       listed = k .listed;
+      kept = λ w b m o. k .kept w b m o ∙ e w b m o;
       touched = k .touched;
       untouched = k .untouched;
     }
@@ -101,7 +121,7 @@ module _ {s l a levels : List ℕ} (h : Leveled s l a levels) (x : ℕ) where
     pub falling-cong : (next : ℕ → ℕ → Bool) → ((w p : ℕ) → w < vertices s → In p (neighbors s l w) → out w p ≡ next w p) → ((w p : ℕ) → T (next w p) → In p (take end queue))
         → Falling s l a levels x out support queue end → Falling s l a levels x next support queue end
     unfolding holdsOf
-    falling-cong next e f = falling-beside next f (λ w b m.
+    falling-cong next e f = falling-beside next f (λ w b m o.
         count-cong (holdsOf levels x (out w) w) (holdsOf levels x (next w) w) (neighbors s l w) (λ p i. let q = e w p b i in rw q))
 
     -- the list is no longer than the vertices, and holds vertices
@@ -150,26 +170,34 @@ module _ {s l a levels : List ℕ} (h : Leveled s l a levels) (x : ℕ) where
           (λ e. k .within v p (subst T (sym (m .other v p (λ r z. neqb v w e r))) t))
 
       -- w does not rely on u: nothing changes
-      pub falling-skip : T (not (reliesOf levels a x u w)) → Falling s l a levels x next support queue end
+      pub falling-skip : T (not (reliesOf levels a support x u w)) → Falling s l a levels x next support queue end
       unfolding reliesOf
       falling-skip t = falling-beside next next-within
-          (λ v b f. split (eqb v w)
+          (λ v b f o. split (eqb v w)
           (λ e.
           let here = eqb→eq v w e in
-          let keeps = nand (not (adding A x w)) (loses levels x u w) t (subst (λ z. T (not (adding A x z))) here f) in
-          rw here (left-same keeps))
+          let free : T (not (adding A x w)) = subst (λ z. T (not (adding A x z))) here f in
+          let stands = subst (λ z. T (not (fell levels support z))) here (not-T (fell levels support v) (λ q. o (k .listed v b f .1 q))) in
+          rw here (left-same (nand (not (fell levels support w) && not (adding A x w)) _ t (and-i (not (fell levels support w)) _ stands free))))
           (λ e. left-other v (neqb v w e)))
           k
 
       -- w relies on u: one less holds it
-      module _ (t : T (reliesOf levels a x u w)) (b : w < vertices s) (i : In u (neighbors s l w)) where
+      module _ (t : T (reliesOf levels a support x u w)) (b : w < vertices s) (i : In u (neighbors s l w)) where
         free : T (not (adding A x w))
         unfolding reliesOf
-        free = and-l (not (adding A x w)) _ t
+        free = and-r (not (fell levels support w)) _ (and-l (not (fell levels support w) && not (adding A x w)) _ t)
+
+        stands : T (not (fell levels support w))
+        unfolding reliesOf
+        stands = and-l (not (fell levels support w)) _ (and-l (not (fell levels support w) && not (adding A x w)) _ t)
 
         loss : T (loses levels x u w)
         unfolding reliesOf
-        loss = and-r (not (adding A x w)) _ t
+        loss = and-r (not (fell levels support w) && not (adding A x w)) _ t
+
+        new : In w (take end queue) → ⊥
+        new j = T-not (fell levels support w) stands (k .listed w b free .0 j)
 
         abbrev held : ℕ
         held = heldBy levels s l support w
@@ -178,28 +206,34 @@ module _ {s l a levels : List ℕ} (h : Leveled s l a levels) (x : ℕ) where
         less = set support w (held - 1)
 
         pub held-less : held ≡ suc (left next w)
-        held-less = k .kept w b free ∙ left-less loss b i
+        held-less = k .kept w b free new ∙ left-less loss b i
 
         -- kept anew
-        held-here : heldBy levels s l less w ≡ left next w
-        unfolding heldBy
-        held-here =
-            let e : getD less w 0 ≡ left next w = getD-set-same support w (held - 1) 0 (omega (arith, k .support-long)) ∙ omega (arith, held-less) in
-            let small = ne-eqb (getD less w 0) 65535 (λ z. absurd (omega (arith, left-small next w b))) in
-            rw small e
+        less-here : getD less w 0 ≡ left next w
+        less-here = getD-set-same support w (held - 1) 0 (omega (arith, k .support-long)) ∙ omega (arith, held-less)
 
-        held-other : (v : ℕ) → (v ≡ w → ⊥) → heldBy levels s l less v ≡ heldBy levels s l support v
-        unfolding heldBy
-        held-other v f = let e = getD-set-other support w v (held - 1) 0 f in rw e
+        less-other : (v : ℕ) → (v ≡ w → ⊥) → getD less v 0 ≡ getD support v 0
+        less-other v f = getD-set-other support w v (held - 1) 0 f
 
-        less-kept : (v : ℕ) → v < vertices s → T (not (adding A x v)) → heldBy levels s l less v ≡ left next v
-        less-kept v c f = split (eqb v w)
-            (λ e. let here = eqb→eq v w e in rw here held-here)
-            (λ e. let apart = neqb v w e in held-other v apart ∙ k .kept v c f ∙ left-other v apart)
+        less-kept : (v : ℕ) → v < vertices s → T (not (adding A x v)) → (In v (take end queue) → ⊥) → heldBy levels s l less v ≡ left next v
+        unfolding heldBy
+        less-kept v c f o = split (eqb v w)
+            (λ e.
+            let here = eqb→eq v w e in
+            let small = ne-eqb (getD less w 0) 65535 (λ z. absurd (omega (arith, less-here, left-small next w b))) in
+            rw (here, small) less-here)
+            (λ e.
+            let apart = neqb v w e in
+            let same-kept = less-other v apart in
+            rw same-kept (k .kept v c f o ∙ left-other v apart))
+
+        -- found to fall as before, but for w
+        fell-other : (v : ℕ) → (v ≡ w → ⊥) → fell levels less v ≡ fell levels support v
+        fell-other v f = let e = less-other v f in rw e
 
         less-untouched : (v : ℕ) → v < vertices s → T (adding A x v) → getD less v 0 ≡ 65535
         less-untouched v c m =
-            getD-set-other support w v (held - 1) 0 (λ e. T-not (adding A x w) free (subst (λ z. T (adding A x z)) e m)) ∙ k .untouched v c m
+            less-other v (λ e. T-not (adding A x w) free (subst (λ z. T (adding A x z)) e m)) ∙ k .untouched v c m
 
         -- w is in a component to be searched: x holds it, or one of its level that falls
         near-w : T (exposed G A x w)
@@ -218,9 +252,9 @@ module _ {s l a levels : List ℕ} (h : Leveled s l a levels) (x : ℕ) where
         less-touched : (v : ℕ) → v < vertices s → (getD less v 0 ≡ 65535 → ⊥) → T (exposed G A x v)
         less-touched v c f = split (eqb v w)
             (λ e. subst (λ z. T (exposed G A x z)) (sym (eqb→eq v w e)) near-w)
-            (λ e. k .touched v c (λ q. f (getD-set-other support w v (held - 1) 0 (neqb v w e) ∙ q)))
+            (λ e. k .touched v c (λ q. f (less-other v (neqb v w e) ∙ q)))
 
-        -- enough or far too few: w stays where it is
+        -- one to spare: w stays
         falling-weaken : (held ≡ getD levels w 0 → ⊥) → Falling s l a levels x next less queue end
         falling-weaken ne = record {
           support-long = omega (arith, k .support-long, length-set support w (held - 1));
@@ -230,22 +264,19 @@ module _ {s l a levels : List ℕ} (h : Leveled s l a levels) (x : ℕ) where
           self = k .self;
           down = k .down;
           within = next-within;
-          kept = less-kept;
           listed = λ v c f. split (eqb v w)
               (λ e.
               let here = eqb→eq v w e in
-              let r = k .listed w b free in
-              rw (here, held-here) (λ j. omega (arith, r .0 j, held-less), λ j. r .1 (omega (arith, held-less, ne))))
-              (λ e. let same-kept = held-other v (neqb v w e) in rw same-kept (k .listed v c f));
+              let still = le-ltb (getD less w 0) (getD levels w 0) (omega (arith, less-here, held-less, held-stands support w b (free-of A x w free) stands, ne)) in
+              rw (here, still) (λ j. absurd (new j), λ q. absurd q))
+              (λ e. let before = fell-other v (neqb v w e) in rw before (k .listed v c f));
+          kept = less-kept;
           touched = less-touched;
           untouched = less-untouched;
         }
 
         -- just enough: w falls
         module _ (e : held ≡ getD levels w 0) where
-          new : In w (take end queue) → ⊥
-          new j = absurd (omega (arith, k .listed w b free .0 j))
-
           pub place : end < vertices s
           place = omega (arith, length-take-le end queue (k .room), distinct-other (take end queue) (vertices s) (k .distinct) (λ v j. k .down v j .0) w b new)
 
@@ -265,19 +296,19 @@ module _ {s l a levels : List ℕ} (h : Leveled s l a levels) (x : ℕ) where
             self = rw longer (in-append (take end queue) (w ∷ []) x .1 (inl (k .self)));
             down = rw longer (λ v j. ⊎-elim (k .down v) (⊎-elim (λ q. subst (λ z. (z < vertices s) × T (fallen G A x z)) (sym q) (b, goes)) (λ m. absurd m)) (in-append (take end queue) (w ∷ []) v .0 j));
             within = rw longer (λ v p m. in-append (take end queue) (w ∷ []) p .1 (inl (next-within v p m)));
-            kept = less-kept;
             listed = rw longer (λ v c f. split (eqb v w)
                 (λ q.
                 let here = eqb→eq v w q in
-                rw (here, held-here) (λ j. omega (arith, held-less), λ j. in-append (take end queue) (w ∷ []) w .1 (inr (inl refl))))
+                rw here (λ j. le→leb (suc (getD less w 0)) (getD levels w 0) (omega (arith, less-here, held-less)), λ j. in-append (take end queue) (w ∷ []) w .1 (inr (inl refl))))
                 (λ q.
                 let apart = neqb v w q in
-                let same-kept = held-other v apart in
+                let before = fell-other v apart in
                 let r = k .listed v c f in
-                rw same-kept (
+                rw before (
                   λ j. r .0 (⊎-elim (λ m. m) (⊎-elim (λ z. absurd (apart z)) (λ m. absurd m)) (in-append (take end queue) (w ∷ []) v .0 j)),
                   λ j. in-append (take end queue) (w ∷ []) v .1 (inl (r .1 j)),
                 )));
+            kept = rw longer (λ v c f o. less-kept v c f (λ j. o (in-append (take end queue) (w ∷ []) v .1 (inl j))));
             touched = less-touched;
             untouched = less-untouched;
           }

@@ -4,15 +4,15 @@ use mathlib.Core.Path.{_≡_, refl, sym, ap, _∙_, subst}
 use mathlib.Core.Logic.{inl, inr, ⊎-elim}
 use mathlib.Core.Bool.{Bool, true, false, not, cond, _&&_, _||_}
 use mathlib.Core.List.{List, [], _∷_}
-use Prim.Native.Nat.{ℕ, suc, _+_, _-_, _≤_, _<_}
+use Prim.Native.Nat.{ℕ, _+_, _-_, _≤_, _<_}
 use native.Mathlib.Omega.{arith}
 use lib.ListN.{length, take, getD, set, replicate, length-set, length-replicate, getD-replicate}
 use lib.Seq.{length-take-le, take-all, take-suc-set, take-set-le, take-take, getD-take, getD-set-other}
-use lib.Dec.{T, ltb, eqb, leb→le, le→leb, T-not, eqb→eq, eqb-refl, nltb→le}
-use borrow.Author.Tests.{ne-eqb, le-ltb}
-use Rattle.finite.specs.Count.{bit, count, In}
+use lib.Dec.{T, eqb, T-not, not-T, eqb→eq, eqb-refl}
+use borrow.Author.Tests.{le-ltb}
+use Rattle.finite.specs.Count.{bit, In}
 use Rattle.finite.specs.Search.{any, member}
-use Rattle.finite.proofs.Tests.{and-i, and-l, and-r, or-l, or-r, or-e, split, same, true-of, false-of, eqb-of}
+use Rattle.finite.proofs.Tests.{and-i, and-l, and-r, or-l, or-r, or-e, split, same, true-of, eqb-of}
 use Rattle.finite.proofs.Count.{in-at, in-take, in-take-more, distinct-before, count-cong}
 use Rattle.finite.proofs.Search.{member-i, member-e, member-no}
 use Rattle.table.specs.Table.{vertices, neighbors, SoundTable}
@@ -21,22 +21,17 @@ use Rattle.anchored.specs.Followers.{adding}
 use Rattle.anchored.specs.Collapse.{falls, fallMark}
 use Rattle.anchored.proofs.Core.{level-lt, level-anchored}
 use Rattle.anchored.proofs.Anchor.{free-of, other-of}
-use Rattle.anchored.proofs.Falls.{fallen, held-before, settled-falls}
+use Rattle.anchored.proofs.Falls.{fallen, settled-falls}
 use Rattle.shells.specs.Input.{graphOf, anchoredBy}
 use Rattle.shells.proofs.Laws.{simple}
-use Rattle.collapse.specs.Cascade.{Leveled, upholds, lapses, holdsOf, reliesOf, heldBy, tight, fellBy, withdrawn, Falling}
-use Rattle.collapse.proofs.Losing.{Withdraws, left-is, falling-skip, held-less, place, falling-touch, falling-cong, listed-at}
+use Rattle.collapse.specs.Cascade.{Leveled, holdsOf, fell, reliesOf, heldBy, tight, fellBy, withdrawn, Falling}
+use Rattle.collapse.proofs.Losing.{Withdraws, left-is, nobody-out, held-stands, falling-skip, held-less, place, falling-touch, falling-cong, listed-at}
 
 -- u stands at `head` of the list, and is withdrawn from its neighbors before place j
 pub record Telling (s l a levels : List ℕ) (x head u j : ℕ) (support queue : List ℕ) (end : ℕ) : Type 0 where
   pub inside : head < end
   pub at-head : getD queue head 0 ≡ u
   pub falling : Falling s l a levels x (withdrawn queue head (take j (neighbors s l u))) support queue end
-
--- nobody out
-all-in : (a b : Bool) → a && not (false && b) ≡ a
-all-in true b = refl
-all-in false b = refl
 
 -- what stands at the front stands in more of the list
 in-front : (z : List ℕ) (i j p : ℕ) → i ≤ j → In p (take i z) → In p (take j z)
@@ -124,11 +119,11 @@ module _ {s l a levels : List ℕ} (h : Leveled s l a levels) (x : ℕ) where
           }
 
       -- w does not rely on u
-      pub tell-skip : T (not (reliesOf levels a x u w)) → Telling s l a levels x head u (j + 1) support queue end
+      pub tell-skip : T (not (reliesOf levels a support x u w)) → Telling s l a levels x head u (j + 1) support queue end
       tell-skip t = record { inside = k .inside; at-head = k .at-head; falling = falling-skip h x withdraws (k .falling) listed-u t }
 
       -- w does: it has a holder to lose, and there is room for it if it falls
-      module _ (t : T (reliesOf levels a x u w)) where
+      module _ (t : T (reliesOf levels a support x u w)) where
         held-by-u : In u (neighbors s l w)
         held-by-u = table .symmetric u w vertex-u neighbor-w
 
@@ -163,13 +158,11 @@ module _ {s l a levels : List ℕ} (h : Leveled s l a levels) (x : ℕ) where
 
   -- ---- the start and the end
 
-  -- where nobody is withdrawn all of no lower level hold w, and these are enough
-  nobody-out : (w : ℕ) → count (upholds levels w) (neighbors s l w) ≡ count (holdsOf levels x (λ p. false) w) (neighbors s l w)
-  unfolding holdsOf
-  nobody-out w = count-cong (upholds levels w) (holdsOf levels x (λ p. false) w) (neighbors s l w) (λ p i. sym (all-in (upholds levels w p) (lapses levels x w p)))
-
-  enough-first : (w : ℕ) → w < vertices s → T (not (A w)) → getD levels w 0 ≤ count (upholds levels w) (neighbors s l w)
-  enough-first w b f = omega (arith, nobody-out w, left-is h x (λ p. false) w b f, held-before G L A x w b f, h .hold w b)
+  -- a level is at most 65,535
+  level-bound : (v : ℕ) → v < vertices s → getD levels v 0 ≤ 65535
+  level-bound v b = split (A v)
+      (λ t. omega (arith, h .hold v b, level-anchored G L A v t))
+      (λ t. omega (arith, h .hold v b, level-lt G L A v b t, h .admitted .table .small))
 
   -- x alone in the list, withdrawn from nobody
   pub falling-first : (m : ℕ) → vertices s ≤ m → x < vertices s → Falling s l a levels x (withdrawn (set (replicate m 0) 0 x) 0 []) (replicate m 65535) (set (replicate m 0) 0 x) 1
@@ -179,7 +172,6 @@ module _ {s l a levels : List ℕ} (h : Leveled s l a levels) (x : ℕ) where
       let zeros = length-replicate {A = ℕ} m 0 in
       let one : take 1 queue ≡ x ∷ [] = take-suc-set (replicate m 0) 0 x (omega (arith, zeros)) in
       let filled : (w : ℕ) → w < vertices s → _≡_ {A = ℕ} (getD (replicate m 65535) w 0) 65535 = λ w b. getD-replicate m w 65535 0 (omega arith) in
-      let all : (w : ℕ) → w < vertices s → heldBy levels s l (replicate m 65535) w ≡ count (upholds levels w) (neighbors s l w) = λ w b. let e = filled w b in rw e in
       record {
         support-long = omega (arith, length-replicate {A = ℕ} m 65535);
         fallen-long = omega (arith, length-set (replicate m 0) 0 x);
@@ -188,53 +180,41 @@ module _ {s l a levels : List ℕ} (h : Leveled s l a levels) (x : ℕ) where
         self = rw one (inl refl);
         down = rw one (λ v. ⊎-elim (λ e. subst (λ z. (z < vertices s) × T (fallen G A x z)) (sym e) (bx, or-l (eqb x x) _ (eqb-refl x))) (λ i. absurd i));
         within = λ w p t. absurd t;
-        kept = λ w b f. all w b ∙ nobody-out w;
-        listed = λ w b f. rw one (
+        listed = λ w b f. let stands = le-ltb (getD (replicate m 65535) w 0) (getD levels w 0) (omega (arith, filled w b, level-bound w b)) in rw (one, stands) (
           ⊎-elim (λ e. absurd (other-of A x w f (sym e))) (λ i. absurd i),
-          λ few. absurd (omega (arith, few, all w b, enough-first w b (free-of A x w f))),
+          λ q. absurd q,
         );
+        kept = λ w b f o. let e = filled w b in rw e (nobody-out h x w);
         touched = λ w b f. absurd (f (filled w b));
         untouched = λ w b t. filled w b;
       }
 
   -- all of the list withdrawn: what is kept tells who falls
   module _ {support queue : List ℕ} {end : ℕ} (k : Falling s l a levels x (withdrawn queue end []) support queue end) where
+    -- the others have enough
+    enough-last : (w : ℕ) → w < vertices s → T (not (adding A x w)) → (In w (take end queue) → ⊥) → getD levels w 0 ≤ heldBy levels s l support w
+    enough-last w b f o = held-stands h x support w b (free-of A x w f) (not-T (fell levels support w) (λ q. o (k .listed w b f .1 q)))
+
     found-falls : (v : ℕ) → v < vertices s → T (not (adding A x v)) → member v (take end queue) ≡ falls G A x v
     unfolding any holdsOf
     found-falls = settled-falls G L A x (λ p. member p (take end queue)) (member-i x (take end queue) (k .self))
         (λ w b f n.
+        let o : In w (take end queue) → ⊥ = λ j. T-not (member w (take end queue)) n (member-i w (take end queue) j) in
         let out : (p : ℕ) → withdrawn queue end [] w p ≡ member p (take end queue) = λ p. or-none (member p (take end queue)) in
         let beside = count-cong (holdsOf levels x (withdrawn queue end [] w) w) (holdsOf levels x (λ p. member p (take end queue)) w) (neighbors s l w) (λ p i. let e = out p in rw e) in
-        let enough = not-less (λ few. T-not (member w (take end queue)) n (member-i w (take end queue) (k .listed w b f .1 few))) in
-        omega (arith, enough, k .kept w b f, beside, left-is h x (λ p. member p (take end queue)) w b (free-of A x w f), h .hold w b))
+        omega (arith, enough-last w b f o, k .kept w b f o, beside, left-is h x (λ p. member p (take end queue)) w b (free-of A x w f), h .hold w b))
         (λ v b t. k .down v (member-e v (take end queue) t) .1)
       where
         or-none : (b : Bool) → b || false ≡ b
         or-none true = refl
         or-none false = refl
 
-        not-less : {p q : ℕ} → (p < q → ⊥) → q ≤ p
-        not-less {p} {q} f = split (ltb p q) (λ t. absurd (f (leb→le (suc p) q t))) (nltb→le p q)
-
-    -- a level is at most 65,535
-    level-bound : (v : ℕ) → v < vertices s → getD levels v 0 ≤ 65535
-    level-bound v b = split (A v)
-        (λ t. omega (arith, h .hold v b, level-anchored G L A v t))
-        (λ t. omega (arith, h .hold v b, level-lt G L A v b t, h .admitted .table .small))
-
     pub kept-tells : (v : ℕ) → v < vertices s → fellBy levels support v ≡ fallMark G A x v
-    unfolding fellBy fallMark falls heldBy
+    unfolding fellBy fallMark falls
     kept-tells v b = ap bit (split (adding A x v)
         (λ t.
         let stays = true-of (adding A x v) t in
         le-ltb (getD support v 0) (getD levels v 0) (omega (arith, k .untouched v b t, level-bound v b)) ∙ sym (rw stays))
-        (λ f. same (ltb (getD support v 0) (getD levels v 0)) (falls G A x v)
-        (λ t.
-        let few = leb→le (suc (getD support v 0)) (getD levels v 0) t in
-        let touched = ne-eqb (getD support v 0) 65535 (λ e. absurd (omega (arith, few, level-bound v b))) in
-        subst T (found-falls v b f) (member-i v (take end queue) (k .listed v b f .1 (rw touched few))))
-        (λ t.
-        let few = k .listed v b f .0 (member-e v (take end queue) (subst T (sym (found-falls v b f)) t)) in
-        le→leb (suc (getD support v 0)) (getD levels v 0) (split (eqb (getD support v 0) 65535)
-        (λ e. let untouched = true-of (eqb (getD support v 0) 65535) e in absurd (omega (arith, rw untouched at few, enough-first v b (free-of A x v f))))
-        (λ e. let touched = false-of (eqb (getD support v 0) 65535) e in rw touched at few)))))
+        (λ f. same (fell levels support v) (falls G A x v)
+        (λ t. subst T (found-falls v b f) (member-i v (take end queue) (k .listed v b f .1 t)))
+        (λ t. k .listed v b f .0 (member-e v (take end queue) (subst T (sym (found-falls v b f)) t)))))

@@ -38,9 +38,13 @@ module _ (levels : List ℕ) where
   abbrev pub loses : ℕ → ℕ → ℕ → Bool
   loses x u w = upholds w u && lapses x w u
 
-  -- and is neither anchored nor x
-  unfoldable pub reliesOf : List ℕ → ℕ → ℕ → ℕ → Bool
-  reliesOf a x u w = not (adding (anchoredBy a) x w) && loses x u w
+  -- v is found to fall: too few are kept for it
+  abbrev pub fell : List ℕ → ℕ → Bool
+  fell support v = ltb (getD support v 0) (getD levels v 0)
+
+  -- w, not found to fall yet and neither anchored nor x, loses a holder
+  unfoldable pub reliesOf : List ℕ → List ℕ → ℕ → ℕ → ℕ → Bool
+  reliesOf a support x u w = not (fell support w) && not (adding (anchoredBy a) x w) && loses x u w
 
   module _ (s l : List ℕ) where
     -- how many hold w: as kept, or, where 65,535 says that w was not touched yet, all of no lower level
@@ -51,16 +55,16 @@ module _ (levels : List ℕ) where
     abbrev pub tight : List ℕ → ℕ → Bool
     tight support w = eqb (heldBy support w) (getD levels w 0)
 
-  -- v is found to fall: too few are kept for it
+  -- the mark of v by what is kept
   unfoldable pub fellBy : List ℕ → ℕ → ℕ
-  fellBy support v = bit (ltb (getD support v 0) (getD levels v 0))
+  fellBy support v = bit (fell support v)
 
 -- p is withdrawn from w: it is one of the first `head` of those fallen, or the next, if w is among the neighbors ws already told
 abbrev pub withdrawn : List ℕ → ℕ → List ℕ → ℕ → ℕ → Bool
 withdrawn fallen head ws w p = member p (take head fallen) || (member w ws && eqb (getD fallen head 0) p)
 
--- the first `end` of `fallen` are x and some that fall, each once: those that too few hold beside the withdrawn. Only vertices to be searched are
--- touched, and never x or an anchored one
+-- the first `end` of `fallen` are x and those found to fall, each once, which do fall; for the others it is kept how many hold them beside the
+-- withdrawn. Only vertices to be searched are touched, and never x or an anchored one
 pub record Falling (s l a levels : List ℕ) (x : ℕ) (out : ℕ → ℕ → Bool) (support fallen : List ℕ) (end : ℕ) : Type 0 where
   pub support-long : vertices s ≤ length support
   pub fallen-long : vertices s ≤ length fallen
@@ -69,7 +73,8 @@ pub record Falling (s l a levels : List ℕ) (x : ℕ) (out : ℕ → ℕ → Bo
   pub self : In x (take end fallen)
   pub down : (v : ℕ) → In v (take end fallen) → (v < vertices s) × T (eqb x v || falls (graphOf s l) (anchoredBy a) x v)
   pub within : (w p : ℕ) → T (out w p) → In p (take end fallen)
-  pub kept : (w : ℕ) → w < vertices s → T (not (adding (anchoredBy a) x w)) → heldBy levels s l support w ≡ count (holdsOf levels x (out w) w) (neighbors s l w)
-  pub listed : (w : ℕ) → w < vertices s → T (not (adding (anchoredBy a) x w)) → In w (take end fallen) ↔ (heldBy levels s l support w < getD levels w 0)
+  pub listed : (w : ℕ) → w < vertices s → T (not (adding (anchoredBy a) x w)) → In w (take end fallen) ↔ T (fell levels support w)
+  pub kept : (w : ℕ) → w < vertices s → T (not (adding (anchoredBy a) x w)) → (In w (take end fallen) → ⊥)
+      → heldBy levels s l support w ≡ count (holdsOf levels x (out w) w) (neighbors s l w)
   pub touched : (w : ℕ) → w < vertices s → (getD support w 0 ≡ 65535 → ⊥) → T (exposed (graphOf s l) (anchoredBy a) x w)
   pub untouched : (w : ℕ) → w < vertices s → T (adding (anchoredBy a) x w) → getD support w 0 ≡ 65535

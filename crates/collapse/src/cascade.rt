@@ -76,7 +76,7 @@ fn withdraw(
     let mut j: usize = 0;
     while j < part.len() {
         let w = part[j] as usize;
-        if relies(anchored, levels, x, u, w) {
+        if relies(anchored, levels, support, x, u, w) {
             tail = weaken(starts, links, levels, w, support, fallen, tail);
         }
         j += 1;
@@ -84,12 +84,23 @@ fn withdraw(
     tail
 }
 
-// Whether w, neither anchored nor x, loses a neighbor that holds it when u is withdrawn: x, or one of its level.
-fn relies(anchored: &[u8], levels: &[u16], x: usize, u: usize, w: usize) -> bool
+// Whether w, not found to fall yet and neither anchored nor x, loses a neighbor that holds it when u is withdrawn: x, or one of its level.
+fn relies(
+    anchored: &[u8],
+    levels: &[u16],
+    support: &[u16; 1024],
+    x: usize,
+    u: usize,
+    w: usize,
+) -> bool
     requires { ⌜ w < length (now anchored) ⌝ }
     requires { ⌜ (u < length (now levels)) × (w < length (now levels)) ⌝ }
-    ensures { λ r. ⌜ r ≡ reliesOf (now (levels .entry)) (now (anchored .entry)) x u w ⌝ }
+    requires { ⌜ w < 1024 ⌝ }
+    ensures { λ r. ⌜ r ≡ reliesOf (now (levels .entry)) (now (anchored .entry)) (now (support .entry)) x u w ⌝ }
 {
+    if support[w] < levels[w] {
+        return false;
+    }
     if anchored[w] == 1 {
         return false;
     }

@@ -74,14 +74,15 @@ cast-w c = omega (arith, c .shared-slice-known5 .given (c .before .before .loop 
 
 relies-requires : tie.Need-relies-requires Inv-loop μ-loop
 relies-requires c κs =
-    let start = loop-entry (c .before .before) in
+    let in-loop = c .before .before in
+    let start = loop-entry (in-loop .before) in
     let given = start .pre .0 in
-    omega (arith, neighbor (c .before), vertex start, given .admitted .long, given .long)
+    omega (arith, neighbor in-loop, vertex start, given .admitted .long, given .admitted .table .small, given .long)
 
 weaken-requires : tie.Need-weaken-requires Inv-loop μ-loop
 weaken-requires c κs =
     let chosen = c .before .before in
-    let in-loop = chosen .before .before .before in
+    let in-loop = chosen .before .before .before .before in
     let state = in-loop .before .loop .inv .1 in
     let start = loop-entry (in-loop .before) in
     let x = start .args .x in
@@ -110,7 +111,7 @@ loop-less c = search needs
 
 loop-again : tie.Need-loop-again Inv-loop μ-loop
 loop-again c =
-    let in-loop = c .before .before .before in
+    let in-loop = c .before .before .before .before in
     let state = in-loop .before .loop .inv .1 in
     let start = loop-entry (in-loop .before) in
     let x = start .args .x in
