@@ -54,7 +54,7 @@ module _ (G : Graph) (L : Simple G) (A : ℕ → Bool) (x : ℕ) where
   unfolding falls
   fall-i v a h = and-i (not (adding A x v)) _ a (le→leb (suc (after v)) (lev v) h)
 
-  pub fall-e : (v : ℕ) → T (falls G A x v) → T (not (adding A x v)) × (after v < lev v)
+  fall-e : (v : ℕ) → T (falls G A x v) → T (not (adding A x v)) × (after v < lev v)
   unfolding falls
   fall-e v h = (and-l (not (adding A x v)) _ h, leb→le (suc (after v)) (lev v) (and-r (not (adding A x v)) _ h))
 
@@ -208,11 +208,11 @@ module _ (G : Graph) (L : Simple G) (A : ℕ → Bool) (x : ℕ) where
   joined-same v w bv bw av aw i e = component-iff G L A v w bv bw av aw .1 (hop (stay refl) bw aw i e)
 
   -- a neighbor of the same level is exposed with a vertex
-  pub exposed-along : (u w : ℕ) → u < G .size → w < G .size → T (not (A u)) → T (not (A w)) → In u (G .neighbors w) → lev u ≡ lev w → T (exposed G A x u) → T (exposed G A x w)
+  exposed-along : (u w : ℕ) → u < G .size → w < G .size → T (not (A u)) → T (not (A w)) → In u (G .neighbors w) → lev u ≡ lev w → T (exposed G A x u) → T (exposed G A x w)
   exposed-along u w bu bw au aw i e = exposed-same u w (joined-same u w bu bw au aw i e) e
 
   -- and so is whom x holds
-  pub exposed-beside : x < G .size → (w : ℕ) → w < G .size → T (not (A w)) → In x (G .neighbors w) → T (A x || leb (lev w) (lev x)) → T (exposed G A x w)
+  exposed-beside : x < G .size → (w : ℕ) → w < G .size → T (not (A w)) → In x (G .neighbors w) → T (A x || leb (lev w) (lev x)) → T (exposed G A x w)
   unfolding exposed higher together
   exposed-beside bx w b a i r =
       let back = L .symmetric w x b i in
@@ -231,7 +231,17 @@ module _ (G : Graph) (L : Simple G) (A : ℕ → Bool) (x : ℕ) where
   near : ℕ → Bool
   near p = eqb x p || (falls G A x p && exposed G A x p)
 
-  -- they leave all others enough: whom one of them held is exposed
+  -- whom one of them held, and holds no longer, is exposed
+  exposed-by : x < G .size → (u w : ℕ) → w < G .size → T (not (A w)) → In u (G .neighbors w) → T (A u || leb (lev w) (lev u)) → T (eqb x u || eqb (lev u) (lev w)) → T (near u) → T (exposed G A x w)
+  unfolding near
+  exposed-by bx u w b a i up q o =
+      let by-x : T (eqb x u) → T (exposed G A x w) = λ e.
+      let z = sym (eqb→eq x u e) in
+      exposed-beside bx w b a (subst (λ y. In y (G .neighbors w)) z i) (subst (λ y. T (A y || leb (lev w) (lev y))) z up) in
+      or-e (eqb x u) _ o by-x (λ f. or-e (eqb x u) _ q by-x (λ k.
+      exposed-along u w (L .range w u b i) b (free-of A x u (fall-e u (and-l (falls G A x u) _ f) .0)) a i (eqb→eq (lev u) (lev w) k) (and-r (falls G A x u) _ f)))
+
+  -- so they leave all others enough
   near-held : x < G .size → Held G A x near
   unfolding near
   near-held bx w b a n = split (exposed G A x w)
@@ -244,12 +254,8 @@ module _ (G : Graph) (L : Simple G) (A : ℕ → Bool) (x : ℕ) where
       let free = free-of A x w a in
       le-trans (held-before w b free) (count-mono (holds G A x (λ p. false) w) (holds G A x near w) (G .neighbors w) (λ p i g.
       let up = and-l (A p || leb (lev w) (lev p)) _ g in
-      let by-x : T (eqb x p) → T (exposed G A x w) = λ q.
-      let z = sym (eqb→eq x p q) in
-      exposed-beside bx w b free (subst (λ y. In y (G .neighbors w)) z i) (subst (λ y. T (A y || leb (lev w) (lev y))) z up) in
       and-i (A p || leb (lev w) (lev p)) _ up (nand-i (near p) _ (λ o. not-T (eqb x p || eqb (lev p) (lev w)) (λ q.
-      T-not (exposed G A x w) e (or-e (eqb x p) _ o by-x (λ f. or-e (eqb x p) _ q by-x (λ k.
-      exposed-along p w (L .range w p b i) b (free-of A x p (fall-e p (and-l (falls G A x p) _ f) .0)) free i (eqb→eq (lev p) (lev w) k) (and-r (falls G A x p) _ f))))))))))
+      T-not (exposed G A x w) e (exposed-by bx p w b free i up q o)))))))
 
   -- those who fall are in x's own component, or in lower ones that x has a neighbor in; for an anchored x in any that it has one in
   pub falls-exposed : x < G .size → (v : ℕ) → v < G .size → T (falls G A x v) → T (exposed G A x v)
@@ -258,3 +264,10 @@ module _ (G : Graph) (L : Simple G) (A : ℕ → Bool) (x : ℕ) where
       let a = fall-e v f .0 in
       let apart : T (not (near v)) = or-not (eqb x v) _ (not-T (eqb x v) (λ e. other-of A x v a (eqb→eq x v e))) (nand-i (falls G A x v) _ (λ g. t)) in
       absurd (T-not (falls G A x v) (held-stays near (or-l (eqb x x) _ (eqb-refl x)) (near-held bx) v b a apart) f))
+
+  -- whom x or one who falls held, and holds no longer, is exposed
+  pub lost-exposed : x < G .size → (u w : ℕ) → w < G .size → T (not (A w)) → In u (G .neighbors w) → T (A u || leb (lev w) (lev u)) → T (eqb x u || eqb (lev u) (lev w)) → T (fallen G A x u)
+      → T (exposed G A x w)
+  unfolding near
+  lost-exposed bx u w b a i up q o = exposed-by bx u w b a i up q (or-e (eqb x u) _ o (or-l (eqb x u) _) (λ f.
+      or-r (eqb x u) _ (and-i (falls G A x u) _ f (falls-exposed bx u (L .range w u b i) f))))

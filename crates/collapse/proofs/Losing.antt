@@ -1,7 +1,7 @@
 -- One vertex withdrawn from one neighbor: what the cascade holds before it holds after it. Assumes nothing.
 use mathlib.Core.Path.{_≡_, refl, sym, ap, _∙_, subst}
 use mathlib.Core.Logic.{inl, inr, ⊎-elim}
-use mathlib.Core.Bool.{Bool, true, false, not, cond, _&&_, _||_}
+use mathlib.Core.Bool.{Bool, true, false, not, cond, and-true, _&&_, _||_}
 use mathlib.Core.List.{List, [], _∷_, _++_}
 use Prim.Native.Nat.{ℕ, suc, _+_, _-_, _≤_, _<_}
 use native.Mathlib.Numerals.{add-one}
@@ -22,7 +22,7 @@ use Rattle.anchored.specs.Followers.{adding}
 use Rattle.anchored.specs.Collapse.{exposed}
 use Rattle.anchored.proofs.Core.{level-lt, level-anchored}
 use Rattle.anchored.proofs.Anchor.{free-of}
-use Rattle.anchored.proofs.Falls.{holds, fallen, fall-e, held-before, struck-falls, exposed-along, exposed-beside, falls-exposed}
+use Rattle.anchored.proofs.Falls.{holds, fallen, held-before, struck-falls, lost-exposed}
 use Rattle.shells.specs.Input.{graphOf, anchoredBy}
 use Rattle.shells.proofs.Laws.{simple}
 use Rattle.collapse.specs.Cascade.{Leveled, upholds, lapses, holdsOf, loses, fell, reliesOf, heldBy, tight, Falling}
@@ -38,11 +38,6 @@ kept-by : (a b : Bool) → T (not (a && b)) → a && not (false && b) ≡ a && n
 kept-by true true t = absurd t
 kept-by true false t = refl
 kept-by false b t = refl
-
--- nobody out
-all-in : (a b : Bool) → a && not (false && b) ≡ a
-all-in true b = refl
-all-in false b = refl
 
 module _ {s l a levels : List ℕ} (h : Leveled s l a levels) (x : ℕ) where
   abbrev G : Graph
@@ -85,7 +80,7 @@ module _ {s l a levels : List ℕ} (h : Leveled s l a levels) (x : ℕ) where
   -- where nobody is withdrawn all of no lower level hold w, and these are enough
   pub nobody-out : (w : ℕ) → count (upholds levels w) (neighbors s l w) ≡ count (holdsOf levels x (λ p. false) w) (neighbors s l w)
   unfolding holdsOf
-  nobody-out w = count-cong (upholds levels w) (holdsOf levels x (λ p. false) w) (neighbors s l w) (λ p i. sym (all-in (upholds levels w p) (lapses levels x w p)))
+  nobody-out w = count-cong (upholds levels w) (holdsOf levels x (λ p. false) w) (neighbors s l w) (λ p i. sym (and-true (upholds levels w p)))
 
   enough-first : (w : ℕ) → w < vertices s → T (not (A w)) → getD levels w 0 ≤ count (upholds levels w) (neighbors s l w)
   enough-first w b f = omega (arith, nobody-out w, left-is (λ p. false) w b f, held-before G L A x w b f, h .hold w b)
@@ -239,15 +234,10 @@ module _ {s l a levels : List ℕ} (h : Leveled s l a levels) (x : ℕ) where
         near-w : T (exposed G A x w)
         near-w =
             let down = k .down u iu in
-            let bx = k .down x (k .self) .0 in
             let aw = free-of A x w free in
-            let holds-w : T (A u || leb (lev w) (lev u)) = subst T (upholds-is w u b aw (down .0)) (and-l (upholds levels w u) _ loss) in
-            let by-x : T (eqb x u) → T (exposed G A x w) = λ q.
-            let e = sym (eqb→eq x u q) in
-            exposed-beside G L A x bx w b aw (subst (λ z. In z (neighbors s l w)) e i) (subst (λ z. T (A z || leb (lev w) (lev z))) e holds-w) in
-            or-e (eqb x u) _ (and-r (upholds levels w u) _ loss) by-x (λ q. or-e (eqb x u) _ (down .1) by-x (λ f.
-            exposed-along G L A x u w (down .0) b (free-of A x u (fall-e G L A x u f .0)) aw i
-            (sym (h .hold u (down .0)) ∙ eqb→eq (getD levels u 0) (getD levels w 0) q ∙ h .hold w b) (falls-exposed G L A x bx u (down .0) f)))
+            let alike : eqb (getD levels u 0) (getD levels w 0) ≡ eqb (lev u) (lev w) = rw (h .hold u (down .0), h .hold w b) in
+            lost-exposed G L A x (k .down x (k .self) .0) u w b aw i (subst T (upholds-is w u b aw (down .0)) (and-l (upholds levels w u) _ loss))
+            (subst (λ z. T (eqb x u || z)) alike (and-r (upholds levels w u) _ loss)) (down .1)
 
         less-touched : (v : ℕ) → v < vertices s → (getD less v 0 ≡ 65535 → ⊥) → T (exposed G A x v)
         less-touched v c f = split (eqb v w)

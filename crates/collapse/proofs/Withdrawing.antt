@@ -2,7 +2,7 @@
 -- what is kept tells exactly who falls. Assumes nothing.
 use mathlib.Core.Path.{_≡_, refl, sym, ap, _∙_, subst}
 use mathlib.Core.Logic.{inl, inr, ⊎-elim}
-use mathlib.Core.Bool.{Bool, true, false, not, cond, _&&_, _||_}
+use mathlib.Core.Bool.{Bool, true, false, not, cond, or-false, _&&_, _||_}
 use mathlib.Core.List.{List, [], _∷_}
 use Prim.Native.Nat.{ℕ, _+_, _-_, _≤_, _<_}
 use native.Mathlib.Omega.{arith}
@@ -200,14 +200,10 @@ module _ {s l a levels : List ℕ} (h : Leveled s l a levels) (x : ℕ) where
     found-falls = settled-falls G L A x (λ p. member p (take end queue)) (member-i x (take end queue) (k .self))
         (λ w b f n.
         let o : In w (take end queue) → ⊥ = λ j. T-not (member w (take end queue)) n (member-i w (take end queue) j) in
-        let out : (p : ℕ) → withdrawn queue end [] w p ≡ member p (take end queue) = λ p. or-none (member p (take end queue)) in
+        let out : (p : ℕ) → withdrawn queue end [] w p ≡ member p (take end queue) = λ p. or-false (member p (take end queue)) in
         let beside = count-cong (holdsOf levels x (withdrawn queue end [] w) w) (holdsOf levels x (λ p. member p (take end queue)) w) (neighbors s l w) (λ p i. let e = out p in rw e) in
         omega (arith, enough-last w b f o, k .kept w b f o, beside, left-is h x (λ p. member p (take end queue)) w b (free-of A x w f), h .hold w b))
         (λ v b t. k .down v (member-e v (take end queue) t) .1)
-      where
-        or-none : (b : Bool) → b || false ≡ b
-        or-none true = refl
-        or-none false = refl
 
     pub kept-tells : (v : ℕ) → v < vertices s → fellBy levels support v ≡ fallMark G A x v
     unfolding fellBy fallMark falls

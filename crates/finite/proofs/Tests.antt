@@ -1,6 +1,6 @@
 -- Bool tests and the facts that they stand for. Assumes nothing.
 use mathlib.Core.Path.{_≡_, refl, sym, ap, _∙_, subst}
-use mathlib.Core.Bool.{Bool, true, false, not, _&&_, _||_, Bool·beq}
+use mathlib.Core.Bool.{Bool, true, false, not, _&&_, _||_, Bool·beq, Bool·not-not}
 use Prim.Native.Nat.{ℕ, suc}
 use native.Mathlib.Omega.{arith}
 use lib.Dec.{T, leb, ltb, eqb, leb→le, le→leb, nleb→lt, T-not, not-T, eqb→eq, eqb-refl}
@@ -100,8 +100,4 @@ not-leb m n = same (not (leb m n)) (ltb n m)
     (λ t. not-T (leb m n) (λ s. absurd (omega (arith, leb→le m n s, leb→le (suc n) m t))))
 
 pub not-ltb : (m n : ℕ) → not (ltb n m) ≡ leb m n
-not-ltb m n = ap not (sym (not-leb m n)) ∙ twice (leb m n)
-  where
-    twice : (b : Bool) → not (not b) ≡ b
-    twice true = refl
-    twice false = refl
+not-ltb m n = ap not (sym (not-leb m n)) ∙ Bool·not-not (leb m n)

@@ -7,7 +7,7 @@ use planner::Refusal;
 use pools::{Pool, Random};
 use reference::Anchoring;
 use shared::cases::{Case, Defined, WRONG_ENTRIES};
-use shared::{broken, held, input, small_pools, wrong_lengths, DAMAGES};
+use shared::{broken, held, input, page_examples, small_pools, wrong_lengths, DAMAGES};
 use std::collections::{BTreeMap, BTreeSet};
 
 /// How many calls of each operation gave each number, 0 where it accepted; of the sheets refused with each number, how many have a place
@@ -269,19 +269,16 @@ fn stale_sheets() {
 /// docs/LEVEL_SHEET.md: what it says of the chain's sheets is what the planner answers, and the naive working.
 #[test]
 fn level_sheet_page() {
-    let page = std::fs::read_to_string(std::path::Path::new(env!("CARGO_MANIFEST_DIR")).join("../../docs/LEVEL_SHEET.md")).unwrap();
-    let (mut compared, mut rows) = (Compared::default(), 0);
-    for row in page.lines().filter(|line| line.starts_with("| `")) {
-        let cells: Vec<Vec<u64>> =
-            row.split('`').skip(1).step_by(2).map(|cell| cell.split_whitespace().map(|word| word.parse().unwrap()).collect()).collect();
-        let [anchored, levels, layers, answer] = cells.as_slice() else { panic!("{row}") };
+    let (mut compared, rows) = (Compared::default(), page_examples("LEVEL_SHEET.md"));
+    for row in &rows {
+        let cells: Vec<Vec<u64>> = row.iter().map(|cell| cell.split_whitespace().map(|word| word.parse().unwrap()).collect()).collect();
+        let [anchored, levels, layers, answer] = cells.as_slice() else { panic!("{row:?}") };
         let pool = Pool::of_edges(4, [(0, 1), (1, 2), (2, 3)], anchored.iter().map(|&byte| byte as u8).collect());
         let sheet = [levels, layers].map(|half| half.iter().map(|&number| number as u16).collect());
         let told = compared.check_sheet(&Case::naive(&pool), &sheet);
-        assert_eq!(told.map_or_else(|e| vec![e.number, e.place], |_| vec![0]), *answer, "{row}");
-        rows += 1;
+        assert_eq!(told.map_or_else(|e| vec![e.number, e.place], |_| vec![0]), *answer, "{row:?}");
     }
-    assert_eq!(rows, 10);
+    assert_eq!(rows.len(), 10);
     assert!([0, 13, 14, 19, 20, 21].into_iter().all(|number| compared.met(number)));
 }
 

@@ -41,6 +41,14 @@ pub fn plain(pool: &Pool) -> quick::Pool<'_> {
     quick::Pool { starts: &pool.starts, links: &pool.links }
 }
 
+/// The examples of a page of docs/: of each row of its table what stands between backquotes.
+pub fn page_examples(name: &str) -> Vec<Vec<String>> {
+    let path = std::path::Path::new(env!("CARGO_MANIFEST_DIR")).join("../../docs").join(name);
+    let page = std::fs::read_to_string(path).unwrap();
+    let rows = page.lines().filter(|line| line.starts_with("| `"));
+    rows.map(|row| row.split('`').skip(1).step_by(2).map(str::to_owned).collect()).collect()
+}
+
 /// The anchor set that sound bytes give.
 pub fn anchor_set(pool: &Pool) -> Vec<bool> {
     pool.anchored.iter().map(|&byte| byte == 1).collect()
