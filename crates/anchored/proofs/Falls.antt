@@ -12,7 +12,7 @@ use native.Mathlib.Omega.{arith}
 use native.Mathlib.Nat.{le-trans}
 use native.Mathlib.Numerals.{add-one}
 use Rattle.finite.specs.Count.{count, In}
-use Rattle.finite.specs.Search.{any, member}
+use Rattle.finite.specs.Search.{member}
 use Rattle.finite.specs.Sets.{has}
 use Rattle.finite.proofs.Tests.{and-i, and-l, and-r, or-l, or-r, or-e, split, same, not-or, or-not, eqb-of, neqb, nand, nand-i}
 use Rattle.finite.proofs.Count.{count-mono, count-cong, in-take-more}

@@ -1,11 +1,11 @@
 -- Document 01, "Level, layer, patch": the core, levels and layers. A is the set of anchored vertices (riders retained).
-use mathlib.Core.Bool.{Bool, true, not, cond, _&&_, _||_}
+use mathlib.Core.Bool.{Bool, true, not, cond, _||_}
 use mathlib.Core.List.{List}
 use Prim.Native.Nat.{ℕ, suc, _≤_, _<_}
 use lib.ListN.{length, replicate}
 use lib.Dec.{T, leb, ltb}
-use Rattle.finite.specs.Count.{count, below}
-use Rattle.finite.specs.Search.{any, first, largest}
+use Rattle.finite.specs.Count.{count}
+use Rattle.finite.specs.Search.{first, largest}
 use Rattle.finite.specs.Sets.{has, keep, rounds}
 use Rattle.finite.specs.Pairs.{pairLe}
 use Rattle.anchored.specs.Graph.{Graph}

@@ -1,95 +1,79 @@
--- The answer refusal by refusal, and what an answer that refuses nothing promises. Assumes nothing.
-use mathlib.Core.Path.{_≡_, refl, sym, _∙_}
-use mathlib.Core.Bool.{Bool, true, false, cond}
-use mathlib.Core.List.{List, _++_}
+-- The call by its guard: what the answer says of it, what it promises where it is passed, and what the rounds then leave. Assumes nothing.
+use mathlib.Core.Path.{_≡_, refl, ap, _∙_}
+use mathlib.Core.List.{List}
 use Prim.Native.Nat.{ℕ, _+_, _*_, _≤_, _<_}
 use native.Mathlib.Nat.{mul-le-mul-right}
 use native.Mathlib.Omega.{arith}
-use lib.ListN.{length, getD, take, drop}
+use lib.ListN.{length, getD, take}
 use lib.Seq.{length-take-le, getD-take}
-use borrow.Author.Tests.{lt-ltb, le-ltb, ltb-false}
+use borrow.Author.Tests.{le-ltb, ltb-false}
 use Rattle.table.specs.Table.{vertices, checkOf}
+use Rattle.table.specs.Guard.{answer, past, front}
 use Rattle.table.specs.declared.Refusal.{Refusal}
-use Rattle.table.specs.declared.Checked.{Checked}
-use Rattle.table.specs.declared.Checked.the-variants.{Sound, Refused as TableRefused}
-use Rattle.table.proofs.Laws.{sound}
+use Rattle.table.specs.declared.Guard.{Guard}
+use Rattle.table.specs.declared.Guard.the-variants.{Passed, Refused}
+use Rattle.table.proofs.Guards.{both-passed}
+use Rattle.table.proofs.Laws.{went-on, sound}
 use Rattle.shells.specs.Input.{graphOf, anchoredBy, Admitted}
 use Rattle.text.specs.declared.read.Summary.{Summary}
 use Rattle.sheet.specs.Written.{Written}
-use Rattle.sheet.proofs.Lines.{sheet-whole}
+use Rattle.sheet.proofs.Lines.{sheet-length}
+use Rattle.sheet.proofs.Written.{written-parts}
 use Rattle.rounds.specs.Rounds.{roundsOf}
 use Rattle.rounds.proofs.Playing.{rounds-length}
-use Rattle.answer.specs.Answer.{refuse, sizeOf, roomOf, askedOf, roundsSheet}
-use Rattle.answer.specs.declared.call.Answered.{Answered}
-use Rattle.answer.specs.declared.call.Answered.the-variants.{Sheet, Refused}
+use Rattle.answer.specs.Answer.{sizeOf, roomOf, askedOf, textOf, roundsSheet, sheetOfText, answerOf}
+use Rattle.answer.specs.declared.call.Answered.the-variants.{Sheet, Refused as SheetRefused}
 
-module _ (asked : Summary) (room : ℕ) where
-  pub room-many : 60 < asked .rounds → roomOf asked room ≡ refuse 11 0
-  room-many h = rw (lt-ltb 60 (asked .rounds) h)
+module _ (t : List ℕ) (room : ℕ) where
+  -- the answer is a refusal only where the guard is
+  pub refused-answer : {x : Refusal} → answerOf t room ≡ SheetRefused x → textOf t room ≡ Refused x
+  unfolding answerOf answer
+  refused-answer {x} e = by-guard (textOf t room) e
+    where
+      by-guard : (guard : Guard) → answer guard (Sheet (length (sheetOfText t))) SheetRefused ≡ SheetRefused x → guard ≡ Refused x
+      by-guard Passed e = let z : _≡_ {A = ℕ} 0 1 = cc in absurd (omega arith)
+      by-guard (Refused y) e = let same : y ≡ x = cc in ap Refused same
 
-  module _ (few : asked .rounds ≤ 60) where
-    pub room-short : room < sizeOf asked → roomOf asked room ≡ refuse 12 0
-    room-short h = rw (le-ltb 60 (asked .rounds) few, lt-ltb room (sizeOf asked) h)
+  -- a sheet is answered only where nothing is refused, and with its length
+  pub sheet-answer : {size : ℕ} → answerOf t room ≡ Sheet size → (textOf t room ≡ Passed) × (length (sheetOfText t) ≡ size)
+  unfolding answerOf answer
+  sheet-answer {size} e = by-guard (textOf t room) e
+    where
+      by-guard : (guard : Guard) → answer guard (Sheet (length (sheetOfText t))) SheetRefused ≡ Sheet size → (guard ≡ Passed) × (length (sheetOfText t) ≡ size)
+      by-guard Passed e = (refl, cc)
+      by-guard (Refused y) e = let z : _≡_ {A = ℕ} 0 1 = cc in absurd (omega arith)
 
-    module _ (enough : sizeOf asked ≤ room) where
-      pub room-beyond : asked .beyond < 65536 → roomOf asked room ≡ refuse 15 (asked .beyond)
-      room-beyond h = rw (le-ltb 60 (asked .rounds) few, le-ltb room (sizeOf asked) enough, lt-ltb (asked .beyond) 65536 h)
-
-      pub room-found : 65536 ≤ asked .beyond → roomOf asked room ≡ Sheet (sizeOf asked)
-      room-found h = rw (le-ltb 60 (asked .rounds) few, le-ltb room (sizeOf asked) enough, le-ltb (asked .beyond) 65536 h)
-
-  module _ (s l : List ℕ) where
-    pub asked-large : 1024 < asked .riders → askedOf asked s l room ≡ refuse 2 0
-    unfolding askedOf
-    asked-large h = rw (lt-ltb 1024 (asked .riders) h)
-
-    module _ (small : asked .riders ≤ 1024) where
-      pub asked-many : 16384 < asked .links → askedOf asked s l room ≡ refuse 3 0
-      unfolding askedOf
-      asked-many h = rw (le-ltb 1024 (asked .riders) small, lt-ltb 16384 (asked .links) h)
-
-      module _ (few : asked .links ≤ 16384) where
-        pub asked-refused : {x : Refusal} → checkOf s l ≡ TableRefused x → askedOf asked s l room ≡ Refused x
-        unfolding askedOf
-        asked-refused e = rw (askedOf, le-ltb 1024 (asked .riders) small, le-ltb 16384 (asked .links) few, e)
-
-        pub asked-sound : checkOf s l ≡ Sound → askedOf asked s l room ≡ roomOf asked room
-        unfolding askedOf
-        asked-sound e = rw (askedOf, le-ltb 1024 (asked .riders) small, le-ltb 16384 (asked .links) few, e)
+-- bytes written from the first place on stand at the front
+pub written-front : {old text new : List ℕ} {end : ℕ} → Written old 0 text new end → length text ≤ length old → (end ≡ length text) × (new ≡ front text old)
+written-front {text = text} {end = end} p h = let z : end ≡ length text = omega (arith, p .ends) in (z, written-parts p (omega arith) ∙ rw z)
 
 -- the size of a sheet of at most 60 rounds is no great number
 pub size-small : (rounds n : ℕ) → rounds ≤ 60 → n < 65536 → rounds * (48 + n) < 4000000
 size-small rounds n few small = omega (arith, mul-le-mul-right (48 + n) few)
 
--- an answer with a sheet went past each refusal
-pub past : (b : Bool) (number place : ℕ) (rest : Answered) (size : ℕ) → cond b (refuse number place) rest ≡ Sheet size → (b ≡ false) × (rest ≡ Sheet size)
-past true number place rest size e = let z : _≡_ {A = ℕ} 0 1 = cc in absurd (omega arith)
-past false number place rest size e = (refl, e)
+-- past 2 and 3 the table decides, and then the room
+pub asked-tabled : (asked : Summary) (s l : List ℕ) (room : ℕ) → asked .riders ≤ 1024 → asked .links ≤ 16384 → askedOf asked s l room ≡ past (checkOf s l) (roomOf asked room)
+unfolding askedOf
+asked-tabled asked s l room small few = rw (le-ltb 1024 (asked .riders) small, le-ltb 16384 (asked .links) few)
 
--- and past the check of the table
-checked : (c : Checked) (rest : Answered) (size : ℕ) → (elim c [ Sound ↦ rest | TableRefused x ↦ Refused x ]) ≡ Sheet size → (c ≡ Sound) × (rest ≡ Sheet size)
-checked Sound rest size e = (refl, e)
-checked (TableRefused x) rest size e = let z : _≡_ {A = ℕ} 0 1 = cc in absurd (omega arith)
-
--- what an answer with a sheet promises
-pub record Granted (asked : Summary) (s l : List ℕ) (room size : ℕ) : Type 0 where
+-- what a guard that is passed promises
+pub record Granted (asked : Summary) (s l : List ℕ) (room : ℕ) : Type 0 where
   pub small : asked .riders ≤ 1024
   pub few : asked .links ≤ 16384
-  pub table : checkOf s l ≡ Sound
+  pub table : checkOf s l ≡ Passed
   pub rounds : asked .rounds ≤ 60
   pub enough : sizeOf asked ≤ room
   pub within : 65536 ≤ asked .beyond
-  pub length : size ≡ sizeOf asked
 
-pub granted : (asked : Summary) (s l : List ℕ) (room size : ℕ) → askedOf asked s l room ≡ Sheet size → Granted asked s l room size
+pub granted : (asked : Summary) (s l : List ℕ) (room : ℕ) → askedOf asked s l room ≡ Passed → Granted asked s l room
 unfolding askedOf
-granted asked s l room size e =
-    let large = past _ _ _ _ size e in
-    let many = past _ _ _ _ size (large .1) in
-    let table = checked (checkOf s l) (roomOf asked room) size (many .1) in
-    let rounds = past _ _ _ _ size (table .1) in
-    let short = past _ _ _ _ size (rounds .1) in
-    let beyond = past _ _ _ _ size (short .1) in
+granted asked s l room e =
+    let large = went-on _ _ _ _ e in
+    let many = went-on _ _ _ _ (large .1) in
+    let table = both-passed (checkOf s l) _ (many .1) in
+    let rounds = went-on _ _ _ _ (table .1) in
+    let short = went-on _ _ _ _ (rounds .1) in
+    let beyond = went-on _ _ _ _ (short .1) in
     record {
       small = ltb-false _ _ (large .0);
       few = ltb-false _ _ (many .0);
@@ -97,17 +81,13 @@ granted asked s l room size e =
       rounds = ltb-false _ _ (rounds .0);
       enough = ltb-false _ _ (short .0);
       within = ltb-false _ _ (beyond .0);
-      length = same _ _ (sym (beyond .1));
     }
-  where
-    same : (i j : ℕ) → _≡_ {A = Answered} (Sheet i) (Sheet j) → i ≡ j
-    same i j e = cc
 
 -- ---- the call on arrays that the table stands at the front of
 
-module _ (asked : Summary) (starts links bytes : List ℕ) (room size : ℕ) (roomy : 1025 ≤ length starts) (short : 1024 ≤ length bytes)
+module _ {asked : Summary} (starts links bytes : List ℕ) {room : ℕ} (roomy : 1025 ≤ length starts) (short : 1024 ≤ length bytes)
     (ones : (v : ℕ) → v < 1024 → getD bytes v 0 ≤ 1)
-    (grant : Granted asked (take (asked .riders + 1) starts) (take (asked .links) links) room size) where
+    (grant : Granted asked (take (asked .riders + 1) starts) (take (asked .links) links) room) where
   abbrev s : List ℕ
   s = take (asked .riders + 1) starts
 
@@ -136,10 +116,9 @@ module _ (asked : Summary) (starts links bytes : List ℕ) (room size : ℕ) (ro
   )
 
   -- and leave the sheet with what stood behind it
-  pub sheet-written : (old new : List ℕ) (end : ℕ) → length old ≡ room → Written old 0 (roundsSheet s l (anchoredBy a) (asked .rounds)) new end → new ≡ roundsSheet s l (anchoredBy a) (asked .rounds) ++ drop size old
-  sheet-written old new end e p =
-      let G = graphOf s l in
-      let count = rounds-length G (anchoredBy a) (asked .rounds) in
-      let w = sheet-whole (vertices s) (roundsOf G (anchoredBy a) (asked .rounds)) p (rw (count, vertices-read) (omega (arith, grant .enough))) in
-      let z : size ≡ length (roundsOf G (anchoredBy a) (asked .rounds)) * (48 + vertices s) = rw (count, vertices-read) (grant .length) in
-      w .0 ∙ rw z
+  pub sheet-written : {old new : List ℕ} {end : ℕ} → length old ≡ room → Written old 0 (roundsSheet s l (anchoredBy a) (asked .rounds)) new end
+      → (end ≡ length (roundsSheet s l (anchoredBy a) (asked .rounds))) × (new ≡ front (roundsSheet s l (anchoredBy a) (asked .rounds)) old)
+  sheet-written e p =
+      let rounds = roundsOf (graphOf s l) (anchoredBy a) (asked .rounds) in
+      let count = rounds-length (graphOf s l) (anchoredBy a) (asked .rounds) in
+      written-front p (rw (sheet-length (vertices s) 1 rounds, count, e) (ready .2))

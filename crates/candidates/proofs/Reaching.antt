@@ -24,7 +24,9 @@ use Rattle.anchored.specs.Core.{level, layer, greater}
 use Rattle.anchored.specs.Followers.{firstStep, Walk, start, step, candidates}
 use Rattle.anchored.proofs.Candidates.{walk-lt, candidates-unique}
 use Rattle.shells.specs.Input.{graphOf, anchoredBy}
-use Rattle.candidates.specs.Reaching.{Sheet, alike, greaterOf, stepsOf, visit, visitAll, Queued}
+use Rattle.shells.specs.Arrays.{Holds}
+use Rattle.shells.specs.Sheet.{Sheet}
+use Rattle.candidates.specs.Reaching.{alike, greaterOf, stepsOf, visit, visitAll, Queued}
 use Rattle.shells.proofs.Laws.{simple, free-byte, byte-free}
 
 -- ---- a visit
@@ -126,7 +128,7 @@ queue-start n m h = record {
   marked = zeros-at m;
 }
 
-module _ (n : ℕ) (marks queue : List ℕ) (tail : ℕ) (k : Queued n marks queue tail) where
+module _ {n : ℕ} {marks queue : List ℕ} {tail : ℕ} (k : Queued n marks queue tail) where
   -- `tail` vertices are in it, no more than n
   pub queue-length : length (take tail queue) ≡ tail
   queue-length = length-take-le tail queue (k .room)
@@ -187,10 +189,9 @@ module _ (n : ℕ) (marks queue : List ℕ) (tail : ℕ) (k : Queued n marks que
     visit-pass o = e ∙ sym (visitAll-more p q part i h ∙ visit-old p (visitAll p q (take i part)) here (λ t. rw e at (o t)))
 
 -- a queue that others were put to has not become shorter
-pub queue-grows : (n : ℕ) (marks queue marks₁ queue₁ : List ℕ) (tail tail₁ : ℕ) → Queued n marks queue tail → Queued n marks₁ queue₁ tail₁
+pub queue-grows : {n : ℕ} {marks queue marks₁ queue₁ : List ℕ} {tail tail₁ : ℕ} → Queued n marks queue tail → Queued n marks₁ queue₁ tail₁
     → (p : ℕ → Bool) (l : List ℕ) → take tail₁ queue₁ ≡ visitAll p (take tail queue) l → tail ≤ tail₁
-queue-grows n marks queue marks₁ queue₁ tail tail₁ k k₁ p l e =
-    omega (arith, queue-length n marks queue tail k, queue-length n marks₁ queue₁ tail₁ k₁, ap length e, visitAll-longer p (take tail queue) l)
+queue-grows {queue = queue} {tail = tail} k k₁ p l e = omega (arith, queue-length k, queue-length k₁, ap length e, visitAll-longer p (take tail queue) l)
 
 -- ---- the candidates
 
@@ -200,7 +201,11 @@ pub record Reaching (G : Graph) (A : ℕ → Bool) (x : ℕ) (q : List ℕ) (hea
   pub firsts : (v : ℕ) → v < G .size → T (firstStep G A x v) → In v q
   pub closed : (i : ℕ) → i < head → (v : ℕ) → v < G .size → T (not (A v)) → In (getD q i 0) (G .neighbors v) → level G A (getD q i 0) ≡ level G A v → layer G A (getD q i 0) < layer G A v → In v q
 
-module _ (s l a levels layers : List ℕ) (h : Sheet s l a levels layers) where
+module _ {s l a levels layers : List ℕ} (sheet : Sheet s l a levels layers) where
+  -- the levels are the defined ones
+  level-is : Holds levels (vertices s) (level (graphOf s l) (anchoredBy a))
+  level-is = sheet .leveled .hold
+
   abbrev G : Graph
   G = graphOf s l
 
@@ -214,8 +219,8 @@ module _ (s l a levels layers : List ℕ) (h : Sheet s l a levels layers) where
   lay = layer G A
 
   greater-is : (w u : ℕ) → w < vertices s → u < vertices s → greaterOf levels layers w u ≡ greater G A w u
-  unfolding greaterOf greater
-  greater-is w u bw bu = rw (h .levels-hold w bw, h .levels-hold u bu, h .layers-hold w bw, h .layers-hold u bu)
+  unfolding greater
+  greater-is w u bw bu = rw (level-is w bw, level-is u bu, sheet .layers-hold w bw, sheet .layers-hold u bu)
 
   module _ (u w : ℕ) (bu : u < vertices s) (bw : w < vertices s) where
     -- a step is to a vertex that is not anchored, of greater pair, and of the same level unless it is the first
@@ -224,15 +229,15 @@ module _ (s l a levels layers : List ℕ) (h : Sheet s l a levels layers) where
     step-e first t =
         let b = and-l (eqb (getD a w 0) 0 && (first || alike levels w u)) (greaterOf levels layers w u) t in
         let e : T (first || alike levels w u) = and-r (eqb (getD a w 0) 0) _ b in (
-          byte-free s l a (h .admitted) w (eqb→eq (getD a w 0) 0 (and-l (eqb (getD a w 0) 0) _ b)),
-          rw (h .levels-hold w bw, h .levels-hold u bu) at e,
+          byte-free a w (eqb→eq (getD a w 0) 0 (and-l (eqb (getD a w 0) 0) _ b)),
+          rw (level-is w bw, level-is u bu) at e,
           subst T (greater-is w u bw bu) (and-r (eqb (getD a w 0) 0 && (first || alike levels w u)) (greaterOf levels layers w u) t),
         )
 
     step-i : (first : Bool) → T (not (A w)) → T (first || eqb (lev w) (lev u)) → T (greater G A w u) → T (stepsOf a levels layers first u w)
     unfolding stepsOf
     step-i first f e g = and-i (eqb (getD a w 0) 0 && (first || alike levels w u)) _
-        (and-i (eqb (getD a w 0) 0) _ (eqb-of (getD a w 0) 0 (free-byte s l a (h .admitted) w bw f)) (rw (h .levels-hold w bw, h .levels-hold u bu) e))
+        (and-i (eqb (getD a w 0) 0) _ (eqb-of (getD a w 0) 0 (free-byte (sheet .leveled .admitted) w bw f)) (rw (level-is w bw, level-is u bu) e))
         (subst T (sym (greater-is w u bw bu)) g)
 
     greater-layer : lev u ≡ lev w → T (greater G A w u) → lay u < lay w
@@ -244,7 +249,7 @@ module _ (s l a levels layers : List ℕ) (h : Sheet s l a levels layers) where
     layer-greater e d = not-T (pairLe (lev w) (lay w) (lev u) (lay u)) (λ t. pair-e (lev w) (lay w) (lev u) (lay u) t (λ g. absurd (omega arith)) (λ g k. absurd (omega arith)))
 
   L : Simple G
-  L = simple s l (h .admitted .table)
+  L = simple (sheet .leveled .admitted .table)
 
   module _ (x : ℕ) (bx : x < vertices s) where
     -- the neighbors of x that it steps to
@@ -264,7 +269,7 @@ module _ (s l a levels layers : List ℕ) (h : Sheet s l a levels layers) where
       closed = λ i k. absurd (omega arith);
     }
 
-    module _ (q : List ℕ) (head : ℕ) (k : Reaching G A x q head) (some : head < length q) (u : ℕ) (e : getD q head 0 ≡ u) where
+    module _ {q : List ℕ} {head : ℕ} (k : Reaching G A x q head) (some : head < length q) (u : ℕ) (e : getD q head 0 ≡ u) where
       abbrev next : List ℕ
       next = visitAll (stepsOf a levels layers false u) q (neighbors s l u)
 
@@ -298,8 +303,8 @@ module _ (s l a levels layers : List ℕ) (h : Sheet s l a levels layers) where
       }
 
     -- all expanded: the candidates
-    pub reach-end : (q : List ℕ) (head : ℕ) → Reaching G A x q head → length q ≤ head → (v : ℕ) → member v q ≡ has (candidates G A x) v
-    reach-end q head k all = candidates-unique G L A x (λ v. member v q)
+    pub reach-end : {q : List ℕ} {head : ℕ} → Reaching G A x q head → length q ≤ head → (v : ℕ) → member v q ≡ has (candidates G A x) v
+    reach-end {q} k all = candidates-unique G L A x (λ v. member v q)
         (λ v t. k .walks v (member-e v q t))
         (λ v b t. member-i v q (k .firsts v b t))
         (λ w v t b free beside same-level higher.

@@ -10,25 +10,15 @@ use Rattle.finite.specs.Search.{member}
 use Rattle.finite.specs.Sets.{has}
 use Rattle.finite.specs.Pairs.{pairLe}
 use Rattle.table.specs.Table.{vertices}
-use Rattle.anchored.specs.Core.{level, layer}
 use Rattle.anchored.specs.Followers.{candidates}
-use Rattle.shells.specs.Input.{graphOf, anchoredBy, Admitted}
-use Rattle.shells.specs.Arrays.{Holds}
-
--- what the search is handed: an admitted table and the defined sheet
-pub record Sheet (s l a levels layers : List ℕ) : Type 0 where
-  pub admitted : Admitted s l a
-  pub levels-long : vertices s ≤ length levels
-  pub layers-long : vertices s ≤ length layers
-  pub levels-hold : Holds levels (vertices s) (level (graphOf s l) (anchoredBy a))
-  pub layers-hold : Holds layers (vertices s) (layer (graphOf s l) (anchoredBy a))
+use Rattle.shells.specs.Input.{graphOf, anchoredBy}
 
 -- two vertices of one level
 abbrev pub alike : List ℕ → ℕ → ℕ → Bool
 alike levels v w = eqb (getD levels v 0) (getD levels w 0)
 
 -- the pair of w is greater than that of u
-unfoldable pub greaterOf : List ℕ → List ℕ → ℕ → ℕ → Bool
+abbrev pub greaterOf : List ℕ → List ℕ → ℕ → ℕ → Bool
 greaterOf levels layers w u = not (pairLe (getD levels w 0) (getD layers w 0) (getD levels u 0) (getD layers u 0))
 
 -- a walk steps from u to w: not anchored, after the first step of the same level, and of greater pair

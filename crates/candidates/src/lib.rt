@@ -2,9 +2,11 @@
 ghost use mathlib.Core.Path.{_≡_};
 ghost use Prim.Native.Nat.{_<_};
 ghost use lib.ListN.{length, take};
+ghost use Rattle.finite.specs.Moments.{old, final};
 ghost use Rattle.table.specs.Table.{vertices, neighbors as neighborsOf};
-ghost use Rattle.candidates.specs.Reaching.{Sheet, greaterOf, stepsOf, visitAll, Queued, Reached};
-use shells::pair::Pair;
+ghost use Rattle.shells.specs.Sheet.{Sheet};
+ghost use Rattle.candidates.specs.Reaching.{stepsOf, visitAll, Queued, Reached};
+use shells::pair::is_above;
 
 // Puts the candidates into the queue and marks them 2; how many there are.
 pub fn reach(
@@ -20,7 +22,7 @@ pub fn reach(
     requires { ⌜ Sheet (now starts) (now links) (now anchored) (now levels) (now layers) ⌝ }
     requires { ⌜ x < vertices (now starts) ⌝ }
     requires { ⌜ Queued (vertices (now starts)) (now marks) (now queue) 0 ⌝ }
-    ensures { λ r. ⌜ Reached (now (starts .entry)) (now (links .entry)) (now (anchored .entry)) x (now (marks .exit)) (now (queue .exit)) r ⌝ }
+    ensures { λ r. ⌜ Reached (old starts) (old links) (old anchored) x (final marks) (final queue) r ⌝ }
 {
     let mut tail = expand(
         starts,
@@ -70,8 +72,10 @@ fn expand(
     requires { ⌜ Sheet (now starts) (now links) (now anchored) (now levels) (now layers) ⌝ }
     requires { ⌜ u < vertices (now starts) ⌝ }
     requires { ⌜ Queued (vertices (now starts)) (now marks) (now queue) tail ⌝ }
-    ensures queued { λ r. ⌜ Queued (vertices (now (starts .entry))) (now (marks .exit)) (now (queue .exit)) r ⌝ }
-    ensures pushed { λ r. ⌜ take r (now (queue .exit)) ≡ visitAll (stepsOf (now (anchored .entry)) (now (levels .entry)) (now (layers .entry)) first u) (take tail (now (queue .entry))) (neighborsOf (now (starts .entry)) (now (links .entry)) u) ⌝ }
+    ensures queued { λ r. ⌜ Queued (vertices (old starts)) (final marks) (final queue) r ⌝ }
+    ensures pushed { λ r.
+        let passes = stepsOf (old anchored) (old levels) (old layers) first u in
+        ⌜ take r (final queue) ≡ visitAll passes (take tail (old queue)) (neighborsOf (old starts) (old links) u) ⌝ }
 {
     let part = table::neighbors(starts, links, u);
     let mut end = tail;
@@ -97,7 +101,7 @@ fn steps(anchored: &[u8], levels: &[u16], layers: &[u16], first: bool, u: usize,
     requires { ⌜ w < length (now layers) ⌝ }
     requires { ⌜ u < length (now levels) ⌝ }
     requires { ⌜ u < length (now layers) ⌝ }
-    ensures { λ r. ⌜ r ≡ stepsOf (now (anchored .entry)) (now (levels .entry)) (now (layers .entry)) first u w ⌝ }
+    ensures { λ r. ⌜ r ≡ stepsOf (old anchored) (old levels) (old layers) first u w ⌝ }
 {
     if anchored[w] != 0 {
         return false;
@@ -107,18 +111,5 @@ fn steps(anchored: &[u8], levels: &[u16], layers: &[u16], first: bool, u: usize,
             return false;
         }
     }
-    is_greater(levels, layers, w, u)
-}
-
-// Whether the pair of w is greater than that of u.
-fn is_greater(levels: &[u16], layers: &[u16], w: usize, u: usize) -> bool
-    requires { ⌜ w < length (now levels) ⌝ }
-    requires { ⌜ w < length (now layers) ⌝ }
-    requires { ⌜ u < length (now levels) ⌝ }
-    requires { ⌜ u < length (now layers) ⌝ }
-    ensures { λ r. ⌜ r ≡ greaterOf (now (levels .entry)) (now (layers .entry)) w u ⌝ }
-{
-    let lower = Pair::new(levels[u], layers[u]);
-    let upper = Pair::new(levels[w], layers[w]);
-    !lower.at_or_above(upper)
+    is_above(levels, layers, w, u)
 }

@@ -1,6 +1,5 @@
 // Lines on standard output, each behind the name of its case and a title.
 use libc::STDOUT_FILENO;
-use table::Checked;
 use table::Refusal;
 
 pub fn text(bytes: &[u8]) {
@@ -31,16 +30,11 @@ pub fn refusal(name: &[u8], title: &[u8], refused: Refusal) {
     text(b"\n");
 }
 
-// `NAME TITLE sound`, or the refusal.
-pub fn answer(name: &[u8], title: &[u8], answered: Checked) {
-    match answered {
-        Checked::Sound => {
-            text(name);
-            text(title);
-            text(b" sound\n");
-        }
-        Checked::Refused(refused) => refusal(name, title, refused),
-    }
+// `NAME TITLE sound`.
+pub fn sound(name: &[u8], title: &[u8]) {
+    text(name);
+    text(title);
+    text(b" sound\n");
 }
 
 // `NAME TITLE NUMBER NUMBER`; of a longer row the first eight numbers.

@@ -24,8 +24,9 @@ use Rattle.anchored.proofs.Core.{level-lt, level-anchored}
 use Rattle.anchored.proofs.Anchor.{free-of}
 use Rattle.anchored.proofs.Falls.{holds, fallen, held-before, struck-falls, lost-exposed}
 use Rattle.shells.specs.Input.{graphOf, anchoredBy}
+use Rattle.shells.specs.Sheet.{Leveled}
 use Rattle.shells.proofs.Laws.{simple}
-use Rattle.collapse.specs.Cascade.{Leveled, upholds, lapses, holdsOf, loses, fell, reliesOf, heldBy, tight, Falling}
+use Rattle.collapse.specs.Cascade.{upholds, lapses, holdsOf, loses, fell, reliesOf, heldBy, tight, Falling}
 
 -- between two states of being out: u is withdrawn from w, and nobody else from anybody
 pub record Withdraws (out next : ℕ → ℕ → Bool) (u w : ℕ) : Type 0 where
@@ -50,7 +51,7 @@ module _ {s l a levels : List ℕ} (h : Leveled s l a levels) (x : ℕ) where
   lev = level G A
 
   L : Simple G
-  L = simple s l (h .admitted .table)
+  L = simple (h .admitted .table)
 
   -- how many hold w beside those out
   abbrev left : (ℕ → ℕ → Bool) → ℕ → ℕ

@@ -23,8 +23,9 @@ use Rattle.anchored.proofs.Core.{level-lt, level-anchored}
 use Rattle.anchored.proofs.Anchor.{free-of, other-of}
 use Rattle.anchored.proofs.Falls.{fallen, settled-falls}
 use Rattle.shells.specs.Input.{graphOf, anchoredBy}
+use Rattle.shells.specs.Sheet.{Leveled}
 use Rattle.shells.proofs.Laws.{simple}
-use Rattle.collapse.specs.Cascade.{Leveled, holdsOf, fell, reliesOf, heldBy, tight, fellBy, withdrawn, Falling}
+use Rattle.collapse.specs.Cascade.{holdsOf, fell, reliesOf, heldBy, tight, fellBy, withdrawn, Falling}
 use Rattle.collapse.proofs.Losing.{Withdraws, left-is, nobody-out, held-stands, falling-skip, held-less, place, falling-touch, falling-cong, listed-at}
 
 -- u stands at `head` of the list, and is withdrawn from its neighbors before place j
@@ -48,7 +49,7 @@ module _ {s l a levels : List ℕ} (h : Leveled s l a levels) (x : ℕ) where
   table = h .admitted .table
 
   L : Simple G
-  L = simple s l table
+  L = simple table
 
   module _ {head u j : ℕ} {support queue : List ℕ} {end : ℕ} (k : Telling s l a levels x head u j support queue end) where
     listed-u : In u (take end queue)

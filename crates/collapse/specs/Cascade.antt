@@ -9,17 +9,9 @@ use lib.Dec.{T, leb, ltb, eqb}
 use Rattle.finite.specs.Count.{bit, count, In, Distinct}
 use Rattle.finite.specs.Search.{member}
 use Rattle.table.specs.Table.{vertices, neighbors}
-use Rattle.anchored.specs.Core.{level}
 use Rattle.anchored.specs.Followers.{adding}
 use Rattle.anchored.specs.Collapse.{falls, exposed}
-use Rattle.shells.specs.Input.{graphOf, anchoredBy, Admitted}
-use Rattle.shells.specs.Arrays.{Holds}
-
--- what the cascade is handed: an admitted table and its levels
-pub record Leveled (s l a levels : List ℕ) : Type 0 where
-  pub admitted : Admitted s l a
-  pub long : vertices s ≤ length levels
-  pub hold : Holds levels (vertices s) (level (graphOf s l) (anchoredBy a))
+use Rattle.shells.specs.Input.{graphOf, anchoredBy}
 
 module _ (levels : List ℕ) where
   -- p, there, holds w: it is of no lower level; an anchored one, of level 65,535, holds everybody

@@ -6,11 +6,13 @@ ghost use mathlib.Core.Bool.{cond};
 ghost use Prim.Native.Nat.{ℕ, _+_, _-_, _≤_, _<_};
 ghost use lib.ListN.{length, getD, set};
 ghost use lib.Dec.{T};
+ghost use Rattle.finite.specs.Moments.{old, final};
 ghost use Rattle.finite.specs.Count.{bit, count};
 ghost use Rattle.table.specs.Table.{vertices, neighbors as neighborsOf, SoundTable};
 ghost use Rattle.anchored.specs.Collapse.{fallMark, exposed};
 ghost use Rattle.shells.specs.Input.{graphOf, anchoredBy};
-ghost use Rattle.collapse.specs.Cascade.{Leveled, upholds, reliesOf, heldBy, tight, fellBy, withdrawn, Falling};
+ghost use Rattle.shells.specs.Sheet.{Leveled};
+ghost use Rattle.collapse.specs.Cascade.{upholds, reliesOf, heldBy, tight, fellBy, withdrawn, Falling};
 use shells::pair::is_higher;
 
 // In place of a count, for a vertex that lost nobody yet: no level is above it.
@@ -28,8 +30,12 @@ pub fn cascade(
 )
     requires { ⌜ Leveled (now starts) (now links) (now anchored) (now levels) ⌝ }
     requires { ⌜ x < vertices (now starts) ⌝ }
-    ensures falls { λ _. ⌜ ((v : ℕ) → v < vertices (now (starts .entry)) → fellBy (now (levels .entry)) (now (support .exit)) v ≡ fallMark (graphOf (now (starts .entry)) (now (links .entry))) (anchoredBy (now (anchored .entry))) x v) ⌝ }
-    ensures local { λ _. ⌜ ((v : ℕ) → v < vertices (now (starts .entry)) → (getD (now (support .exit)) v 0 ≡ 65535 → ⊥) → T (exposed (graphOf (now (starts .entry)) (now (links .entry))) (anchoredBy (now (anchored .entry))) x v)) ⌝ }
+    ensures falls { λ _.
+        let mark = fallMark (graphOf (old starts) (old links)) (anchoredBy (old anchored)) x in
+        ⌜ ((v : ℕ) → v < vertices (old starts) → fellBy (old levels) (final support) v ≡ mark v) ⌝ }
+    ensures local { λ _.
+        let near = exposed (graphOf (old starts) (old links)) (anchoredBy (old anchored)) x in
+        ⌜ ((v : ℕ) → v < vertices (old starts) → (getD (final support) v 0 ≡ 65535 → ⊥) → T (near v)) ⌝ }
 {
     let mut fallen = [0u16; 1024];
     *support = [UNTOUCHED; 1024];
@@ -67,7 +73,7 @@ fn withdraw(
     requires { ⌜ Leveled (now starts) (now links) (now anchored) (now levels) ⌝ }
     requires { ⌜ head < end ⌝ }
     requires { ⌜ Falling (now starts) (now links) (now anchored) (now levels) x (withdrawn (now fallen) head []) (now support) (now fallen) end ⌝ }
-    ensures falling { λ r. ⌜ Falling (now (starts .entry)) (now (links .entry)) (now (anchored .entry)) (now (levels .entry)) x (withdrawn (now (fallen .exit)) (head + 1) []) (now (support .exit)) (now (fallen .exit)) r ⌝ }
+    ensures falling { λ r. ⌜ Falling (old starts) (old links) (old anchored) (old levels) x (withdrawn (final fallen) (head + 1) []) (final support) (final fallen) r ⌝ }
     ensures longer { λ r. ⌜ head < r ⌝ }
 {
     let u = fallen[head] as usize;
@@ -96,7 +102,7 @@ fn relies(
     requires { ⌜ w < length (now anchored) ⌝ }
     requires { ⌜ (u < length (now levels)) × (w < length (now levels)) ⌝ }
     requires { ⌜ w < 1024 ⌝ }
-    ensures { λ r. ⌜ r ≡ reliesOf (now (levels .entry)) (now (anchored .entry)) (now (support .entry)) x u w ⌝ }
+    ensures { λ r. ⌜ r ≡ reliesOf (old levels) (old anchored) (old support) x u w ⌝ }
 {
     if support[w] < levels[w] {
         return false;
@@ -131,9 +137,9 @@ fn weaken(
     requires { ⌜ w < vertices (now starts) ⌝ }
     requires { ⌜ 0 < heldBy (now levels) (now starts) (now links) (now support) w ⌝ }
     requires { ⌜ (heldBy (now levels) (now starts) (now links) (now support) w ≡ getD (now levels) w 0 → end < 1024) ⌝ }
-    ensures support { λ r. ⌜ now (support .exit) ≡ set (now (support .entry)) w (heldBy (now (levels .entry)) (now (starts .entry)) (now (links .entry)) (now (support .entry)) w - 1) ⌝ }
-    ensures fallen { λ r. ⌜ now (fallen .exit) ≡ cond (tight (now (levels .entry)) (now (starts .entry)) (now (links .entry)) (now (support .entry)) w) (set (now (fallen .entry)) end w) (now (fallen .entry)) ⌝ }
-    ensures end { λ r. ⌜ r ≡ end + bit (tight (now (levels .entry)) (now (starts .entry)) (now (links .entry)) (now (support .entry)) w) ⌝ }
+    ensures support { λ r. ⌜ final support ≡ set (old support) w (heldBy (old levels) (old starts) (old links) (old support) w - 1) ⌝ }
+    ensures fallen { λ r. ⌜ final fallen ≡ cond (tight (old levels) (old starts) (old links) (old support) w) (set (old fallen) end w) (old fallen) ⌝ }
+    ensures end { λ r. ⌜ r ≡ end + bit (tight (old levels) (old starts) (old links) (old support) w) ⌝ }
 {
     let held = count_held(starts, links, levels, support, w);
     support[w] = held - 1;
@@ -149,7 +155,7 @@ fn count_held(starts: &[u16], links: &[u16], levels: &[u16], support: &[u16; 102
     requires { ⌜ SoundTable (now starts) (now links) ⌝ }
     requires { ⌜ vertices (now starts) ≤ length (now levels) ⌝ }
     requires { ⌜ w < vertices (now starts) ⌝ }
-    ensures { λ r. ⌜ r ≡ heldBy (now (levels .entry)) (now (starts .entry)) (now (links .entry)) (now (support .entry)) w ⌝ }
+    ensures { λ r. ⌜ r ≡ heldBy (old levels) (old starts) (old links) (old support) w ⌝ }
 {
     if support[w] != UNTOUCHED {
         return support[w];
@@ -162,7 +168,7 @@ fn count_holders(starts: &[u16], links: &[u16], levels: &[u16], w: usize) -> u16
     requires { ⌜ SoundTable (now starts) (now links) ⌝ }
     requires { ⌜ vertices (now starts) ≤ length (now levels) ⌝ }
     requires { ⌜ w < vertices (now starts) ⌝ }
-    ensures { λ r. ⌜ r ≡ count (upholds (now (levels .entry)) w) (neighborsOf (now (starts .entry)) (now (links .entry)) w) ⌝ }
+    ensures { λ r. ⌜ r ≡ count (upholds (old levels) w) (neighborsOf (old starts) (old links) w) ⌝ }
 {
     let part = table::neighbors(starts, links, w);
     let mut total: u16 = 0;

@@ -2,18 +2,27 @@
 ghost use mathlib.Core.Path.{_≡_};
 ghost use Prim.Native.Nat.{_≤_, _<_};
 ghost use lib.ListN.{length};
+ghost use Rattle.finite.specs.Moments.{old, final};
 ghost use Rattle.finite.specs.Count.{tabulate};
 ghost use Rattle.table.specs.Table.{vertices};
+ghost use Rattle.table.specs.Guard.{answer, held};
 ghost use Rattle.level.specs.Marking.{markingOf};
-ghost use Rattle.level.specs.Answers.{written};
-ghost use Rattle.collapse.specs.Cascade.{Leveled, fellBy};
+ghost use Rattle.shells.specs.Sheet.{Leveled};
+ghost use Rattle.collapse.specs.Cascade.{fellBy};
 ghost use Rattle.collapse.specs.Answers.{fallMarksOf};
+ghost use Rattle.collapse.specs.declared.operation.Collapsed.the-variants.{Marked, Refused};
+
+// The answer of a collapse: the marks are set, or a refusal.
+pub enum Collapsed {
+    Marked,
+    Refused(table::Refusal),
+}
 
 // Marks with 1 those for whom fewer are kept than their level, and with 0 all others.
 fn copy_falls(levels: &[u16], support: &[u16; 1024], marks: &mut [u8])
     requires { ⌜ length (now marks) ≤ length (now levels) ⌝ }
     requires { ⌜ length (now marks) ≤ 1024 ⌝ }
-    ensures { λ _. ⌜ now (marks .exit) ≡ tabulate (fellBy (now (levels .entry)) (now (support .entry))) (length (now (marks .entry))) ⌝ }
+    ensures { λ _. ⌜ final marks ≡ tabulate (fellBy (old levels) (old support)) (length (old marks)) ⌝ }
 {
     let mut v: usize = 0;
     while v < marks.len() {
@@ -34,7 +43,7 @@ fn write_falls(
     requires { ⌜ Leveled (now starts) (now links) (now anchored) (now levels) ⌝ }
     requires { ⌜ x < vertices (now starts) ⌝ }
     requires { ⌜ length (now marks) ≡ vertices (now starts) ⌝ }
-    ensures { λ _. ⌜ now (marks .exit) ≡ fallMarksOf (now (starts .entry)) (now (links .entry)) (now (anchored .entry)) x ⌝ }
+    ensures { λ _. ⌜ final marks ≡ fallMarksOf (old starts) (old links) (old anchored) x ⌝ }
 {
     let mut support = [0u16; 1024];
     crate::cascade::cascade(starts, links, anchored, levels, x, &mut support);
@@ -50,9 +59,11 @@ pub fn collapse(
     layers: &[u16],
     x: usize,
     marks: &mut [u8],
-) -> table::Checked
-    ensures answer { λ r. ⌜ r ≡ markingOf (now (starts .entry)) (now (links .entry)) (now (anchored .entry)) (now (levels .entry)) (now (layers .entry)) x (length (now (marks .entry))) ⌝ }
-    ensures marks { λ r. ⌜ now (marks .exit) ≡ written r (fallMarksOf (now (starts .entry)) (now (links .entry)) (now (anchored .entry)) x) (now (marks .entry)) ⌝ }
+) -> Collapsed
+    ensures { λ r.
+        let guard = markingOf (old starts) (old links) (old anchored) (old levels) (old layers) x (length (old marks)) in
+        ⌜ (r ≡ answer guard Marked Refused)
+        × (final marks ≡ held guard (fallMarksOf (old starts) (old links) (old anchored) x) (old marks)) ⌝ }
 {
     let tested = level::vertex::test_marking(
         starts,
@@ -64,10 +75,10 @@ pub fn collapse(
         marks.len(),
     );
     match tested {
-        table::Checked::Refused(refusal) => table::Checked::Refused(refusal),
-        table::Checked::Sound => {
+        table::Guard::Refused(refusal) => Collapsed::Refused(refusal),
+        table::Guard::Passed => {
             write_falls(starts, links, anchored, levels, x, marks);
-            table::Checked::Sound
+            Collapsed::Marked
         }
     }
 }

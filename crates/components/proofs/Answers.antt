@@ -6,9 +6,9 @@ use native.Mathlib.Omega.{arith}
 use lib.ListN.{length}
 use Rattle.finite.specs.Count.{count, below}
 use Rattle.table.specs.Table.{vertices}
-use Rattle.table.specs.declared.Refusal.{Refusal}
-use Rattle.table.specs.declared.Checked.{Checked}
-use Rattle.table.specs.declared.Checked.the-variants.{Sound, Refused}
+use Rattle.table.specs.declared.Guard.{Guard}
+use Rattle.table.specs.declared.Guard.the-variants.{Passed, Refused}
+use Rattle.table.proofs.Guards.{handed, cleared}
 use Rattle.anchored.specs.Component.{heads}
 use Rattle.anchored.proofs.Ranked.{ranked-length}
 use Rattle.shells.specs.Input.{graphOf, anchoredBy}
@@ -18,23 +18,19 @@ use Rattle.level.proofs.Answers.{work-sound}
 use Rattle.components.specs.Answers.{listOf, numbersOf}
 use Rattle.components.specs.declared.Listed.the-variants.{Count, Refused as ListRefused}
 
-module _ (s l a : List ℕ) (p q r : ℕ) where
-  -- the list refuses what the working of the sheet does
-  pub list-refused : {x : Refusal} → workOf s l a p q r ≡ Refused x → listOf s l a p q r ≡ ListRefused x
+module _ (s l a lengths : List ℕ) where
+  pub list-count : workOf s l a lengths ≡ Passed → listOf s l a lengths ≡ Count (count (heads (graphOf s l) (anchoredBy a)) (below (vertices s)))
   unfolding listOf
-  list-refused e = rw (listOf, e)
-
-  pub list-count : workOf s l a p q r ≡ Sound → listOf s l a p q r ≡ Count (count (heads (graphOf s l) (anchoredBy a)) (below (vertices s)))
-  unfolding listOf
-  list-count e = rw (listOf, e)
+  list-count e = cleared _ _ e
 
   -- the count answered is the list's length
-  pub list-length : {c : ℕ} → listOf s l a p q r ≡ Count c → c ≡ length (numbersOf s l a)
-  list-length {c} h = by-answer (workOf s l a p q r) refl
+  pub list-length : {c : ℕ} → listOf s l a lengths ≡ Count c → c ≡ length (numbersOf s l a)
+  unfolding listOf
+  list-length {c} h = by-answer (workOf s l a lengths) refl
     where
-      by-answer : (w : Checked) → workOf s l a p q r ≡ w → c ≡ length (numbersOf s l a)
-      by-answer Sound e =
+      by-answer : (w : Guard) → workOf s l a lengths ≡ w → c ≡ length (numbersOf s l a)
+      by-answer Passed e =
           let same : Count c ≡ Count (count (heads (graphOf s l) (anchoredBy a)) (below (vertices s))) = sym h ∙ list-count e in
           let counted : c ≡ count (heads (graphOf s l) (anchoredBy a)) (below (vertices s)) = cc in
-          counted ∙ sym (ranked-length (graphOf s l) (simple s l (work-sound s l a p q r e .0 .table)) (anchoredBy a))
-      by-answer (Refused x) e = let other : ListRefused x ≡ Count c = sym (list-refused e) ∙ h in let z : _≡_ {A = ℕ} 0 1 = cc in absurd (omega arith)
+          counted ∙ sym (ranked-length (graphOf s l) (simple (work-sound s l a lengths e .0 .table)) (anchoredBy a))
+      by-answer (Refused x) e = let other : ListRefused x ≡ Count c = sym (handed _ _ e) ∙ h in let z : _≡_ {A = ℕ} 0 1 = cc in absurd (omega arith)

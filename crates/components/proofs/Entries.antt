@@ -18,7 +18,7 @@ use Rattle.anchored.specs.Component.{component, together, heads, componentSize,
 use Rattle.anchored.proofs.Core.{level-lt}
 use Rattle.anchored.proofs.Ranked.{ranked-in, ranked-length}
 use Rattle.shells.specs.Arrays.{Holds}
-use Rattle.components.specs.Answers.{front}
+use Rattle.table.specs.Guard.{front}
 use Rattle.components.specs.Entries.{numbered, members, rankedIn, Low, Placed}
 
 -- ---- counting members

@@ -1,14 +1,17 @@
 // The list of components: each once, as level, size and number, by falling level, then by rising number.
 ghost use mathlib.Core.Path.{_≡_};
-ghost use mathlib.Core.List.{map};
+ghost use mathlib.Core.List.{[], _∷_, map};
 ghost use Prim.Native.Nat.{_≤_};
 ghost use lib.ListN.{length, take, getD};
+ghost use Rattle.finite.specs.Moments.{old, final};
 ghost use Rattle.finite.specs.Count.{count as countIn, below};
 ghost use Rattle.table.specs.Table.{vertices};
+ghost use Rattle.table.specs.Guard.{held, front};
 ghost use Rattle.anchored.specs.Component.{heads};
 ghost use Rattle.shells.specs.Input.{graphOf, anchoredBy, Admitted};
 ghost use Rattle.shells.specs.Arrays.{Holds};
-ghost use Rattle.components.specs.Answers.{listOf, numbersOf, levelsOf, sizesOf, front, listed};
+ghost use Rattle.level.specs.Answers.{workOf};
+ghost use Rattle.components.specs.Answers.{listOf, numbersOf, levelsOf, sizesOf};
 ghost use Rattle.components.specs.Entries.{members, rankedIn, Low, Placed};
 
 mod rank; // the order of the list
@@ -22,7 +25,7 @@ pub enum Listed {
 // How many of n vertices have each component number, at the number's place.
 fn count_members(n: usize, component: &[u16; 1024], size: &mut [u16; 1024])
     requires { ⌜ n ≤ 1024 ⌝ }
-    ensures { λ _. ⌜ Holds (now (size .exit)) n (members (now (component .entry)) n) ⌝ }
+    ensures { λ _. ⌜ Holds (final size) n (members (old component) n) ⌝ }
 {
     *size = [0; 1024];
     let mut v: usize = 0;
@@ -39,7 +42,7 @@ fn count_members(n: usize, component: &[u16; 1024], size: &mut [u16; 1024])
 fn gather(count: usize, numbers: &[u16], value: &[u16; 1024], out: &mut [u16])
     requires { ⌜ (count ≤ length (now numbers)) × (count ≤ length (now out)) ⌝ }
     requires { ⌜ Placed count (now numbers) ⌝ }
-    ensures { λ _. ⌜ now (out .exit) ≡ front (map (λ v. getD (now (value .entry)) v 0) (take count (now (numbers .entry)))) (now (out .entry)) ⌝ }
+    ensures { λ _. ⌜ final out ≡ front (map (λ v. getD (old value) v 0) (take count (old numbers))) (old out) ⌝ }
 {
     let mut i: usize = 0;
     while i < count {
@@ -62,10 +65,10 @@ fn list(
     requires { ⌜ Low (now level) (now component) n ⌝ }
     requires { ⌜ (length (now levels) ≡ n) × (length (now sizes) ≡ n) × (length (now numbers) ≡ n) ⌝ }
     requires { ⌜ length (rankedIn (now level) (now component) n n) ≤ n ⌝ }
-    ensures count { λ r. ⌜ r ≡ length (rankedIn (now (level .entry)) (now (component .entry)) n n) ⌝ }
-    ensures levels { λ _. ⌜ now (levels .exit) ≡ front (map (λ v. getD (now (level .entry)) v 0) (rankedIn (now (level .entry)) (now (component .entry)) n n)) (now (levels .entry)) ⌝ }
-    ensures sizes { λ _. ⌜ now (sizes .exit) ≡ front (map (λ v. getD (now (size .entry)) v 0) (rankedIn (now (level .entry)) (now (component .entry)) n n)) (now (sizes .entry)) ⌝ }
-    ensures numbers { λ _. ⌜ now (numbers .exit) ≡ front (rankedIn (now (level .entry)) (now (component .entry)) n n) (now (numbers .entry)) ⌝ }
+    ensures count { λ r. ⌜ r ≡ length (rankedIn (old level) (old component) n n) ⌝ }
+    ensures levels { λ _. ⌜ final levels ≡ front (map (λ v. getD (old level) v 0) (rankedIn (old level) (old component) n n)) (old levels) ⌝ }
+    ensures sizes { λ _. ⌜ final sizes ≡ front (map (λ v. getD (old size) v 0) (rankedIn (old level) (old component) n n)) (old sizes) ⌝ }
+    ensures numbers { λ _. ⌜ final numbers ≡ front (rankedIn (old level) (old component) n n) (old numbers) ⌝ }
 {
     let count = rank::rank(n, level, component, numbers);
     gather(count, numbers, level, levels);
@@ -84,10 +87,10 @@ fn write_list(
 ) -> usize
     requires { ⌜ Admitted (now starts) (now links) (now anchored) ⌝ }
     requires { ⌜ (length (now levels) ≡ vertices (now starts)) × (length (now sizes) ≡ vertices (now starts)) × (length (now numbers) ≡ vertices (now starts)) ⌝ }
-    ensures count { λ r. ⌜ r ≡ countIn (heads (graphOf (now (starts .entry)) (now (links .entry))) (anchoredBy (now (anchored .entry)))) (below (vertices (now (starts .entry)))) ⌝ }
-    ensures levels { λ _. ⌜ now (levels .exit) ≡ front (levelsOf (now (starts .entry)) (now (links .entry)) (now (anchored .entry))) (now (levels .entry)) ⌝ }
-    ensures sizes { λ _. ⌜ now (sizes .exit) ≡ front (sizesOf (now (starts .entry)) (now (links .entry)) (now (anchored .entry))) (now (sizes .entry)) ⌝ }
-    ensures numbers { λ _. ⌜ now (numbers .exit) ≡ front (numbersOf (now (starts .entry)) (now (links .entry)) (now (anchored .entry))) (now (numbers .entry)) ⌝ }
+    ensures count { λ r. ⌜ r ≡ countIn (heads (graphOf (old starts) (old links)) (anchoredBy (old anchored))) (below (vertices (old starts))) ⌝ }
+    ensures levels { λ _. ⌜ final levels ≡ front (levelsOf (old starts) (old links) (old anchored)) (old levels) ⌝ }
+    ensures sizes { λ _. ⌜ final sizes ≡ front (sizesOf (old starts) (old links) (old anchored)) (old sizes) ⌝ }
+    ensures numbers { λ _. ⌜ final numbers ≡ front (numbersOf (old starts) (old links) (old anchored)) (old numbers) ⌝ }
 {
     let mut level = [0u16; 1024];
     let mut layer = [0u16; 1024];
@@ -115,22 +118,23 @@ pub fn list_components(
     sizes: &mut [u16],
     numbers: &mut [u16],
 ) -> Listed
-    ensures answer { λ r. ⌜ r ≡ listOf (now (starts .entry)) (now (links .entry)) (now (anchored .entry)) (length (now (levels .entry))) (length (now (sizes .entry))) (length (now (numbers .entry))) ⌝ }
-    ensures levels { λ r. ⌜ now (levels .exit) ≡ listed r (levelsOf (now (starts .entry)) (now (links .entry)) (now (anchored .entry))) (now (levels .entry)) ⌝ }
-    ensures sizes { λ r. ⌜ now (sizes .exit) ≡ listed r (sizesOf (now (starts .entry)) (now (links .entry)) (now (anchored .entry))) (now (sizes .entry)) ⌝ }
-    ensures numbers { λ r. ⌜ now (numbers .exit) ≡ listed r (numbersOf (now (starts .entry)) (now (links .entry)) (now (anchored .entry))) (now (numbers .entry)) ⌝ }
+    ensures { λ r.
+        let lengths = map length (old levels ∷ old sizes ∷ old numbers ∷ []) in
+        let guard = workOf (old starts) (old links) (old anchored) lengths in
+        ⌜ (r ≡ listOf (old starts) (old links) (old anchored) lengths)
+        × (final levels ≡ held guard (front (levelsOf (old starts) (old links) (old anchored)) (old levels)) (old levels))
+        × (final sizes ≡ held guard (front (sizesOf (old starts) (old links) (old anchored)) (old sizes)) (old sizes))
+        × (final numbers ≡ held guard (front (numbersOf (old starts) (old links) (old anchored)) (old numbers)) (old numbers)) ⌝ }
 {
     let admitted = level::work::admit_slices(
         starts,
         links,
         anchored,
-        levels.len(),
-        sizes.len(),
-        numbers.len(),
+        &[levels.len(), sizes.len(), numbers.len()],
     );
     match admitted {
-        table::Checked::Refused(refusal) => Listed::Refused(refusal),
-        table::Checked::Sound => Listed::Count(write_list(
+        table::Guard::Refused(refusal) => Listed::Refused(refusal),
+        table::Guard::Passed => Listed::Count(write_list(
             starts,
             links,
             anchored,

@@ -4,3 +4,4 @@ pub mod Sets
 pub mod Pairs
 pub mod Bytes
 pub mod Falling
+pub mod Moments

@@ -9,9 +9,9 @@ use borrow.Author.Tests.{eq-eqb, ne-eqb}
 use Rattle.finite.specs.Search.{NoneBelow}
 use Rattle.finite.proofs.Tests.{split, true-of, false-of}
 use Rattle.finite.proofs.Search.{first-hit}
-use Rattle.table.specs.Table.{refused, refuse}
-use Rattle.table.specs.declared.Checked.{Checked}
-use Rattle.table.specs.declared.Checked.the-variants.{Sound}
+use Rattle.table.specs.Guard.{refused, refuse}
+use Rattle.table.specs.declared.Guard.{Guard}
+use Rattle.table.specs.declared.Guard.the-variants.{Passed}
 use Rattle.table.proofs.Laws.{hit, pass}
 use Rattle.level.specs.Faults.{Lowest}
 
@@ -51,17 +51,17 @@ module _ (f : ℕ → ℕ) where
 -- ---- the tests
 
 -- the answer that a fault gives
-abbrev pub answerBy : ℕ → ℕ → Checked
-answerBy number place = cond (eqb number 65535) Sound (refused number place)
+abbrev pub answerBy : ℕ → ℕ → Guard
+answerBy number place = cond (eqb number 65535) Passed (refused number place)
 
 -- the tests that f numbers, all from low on, give the answer of its lowest value
-pub record Numbered (low : ℕ) (f : ℕ → ℕ) (n : ℕ) (answer : Checked) : Type 0 where
+pub record Numbered (low : ℕ) (f : ℕ → ℕ) (n : ℕ) (answer : Guard) : Type 0 where
   pub small : low ≤ 65535
   pub above : (v : ℕ) → low ≤ f v
   pub decides : (number place : ℕ) → Lowest f n number place → answer ≡ answerBy number place
 
 -- without a test nothing is refused
-pub numbered-none : (n : ℕ) → Numbered 65535 (λ v. 65535) n Sound
+pub numbered-none : (n : ℕ) → Numbered 65535 (λ v. 65535) n Passed
 numbered-none n = record {
   small = omega arith;
   above = λ v. omega arith;
@@ -71,7 +71,7 @@ numbered-none n = record {
 }
 
 -- one more test, of a lower number, before those
-module _ (k low : ℕ) (p : ℕ → Bool) (f : ℕ → ℕ) (n : ℕ) (rest : Checked) (lower : k < low) (others : Numbered low f n rest) where
+module _ (k low : ℕ) (p : ℕ → Bool) (f : ℕ → ℕ) (n : ℕ) (rest : Guard) (lower : k < low) (others : Numbered low f n rest) where
   abbrev g : ℕ → ℕ
   g v = cond (p v) k (f v)
 

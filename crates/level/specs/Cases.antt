@@ -5,21 +5,22 @@ use Prim.Native.Nat.{ℕ}
 use Rattle.finite.specs.Count.{tabulate, below, count}
 use Rattle.finite.specs.Search.{any, all, firstFrom, first, ascending}
 use Rattle.finite.specs.Pairs.{pairLe}
-use Rattle.table.specs.Table.{neighbors, badStart, beyond, looped, unsorted, unreturned, refused, checkOf}
-use Rattle.table.specs.declared.Checked.{Checked}
-use Rattle.table.specs.declared.Checked.the-variants.{Sound}
+use Rattle.table.specs.Table.{neighbors, badStart, beyond, looped, unsorted, unreturned, checkOf}
+use Rattle.table.specs.Guard.{refused, answer}
+use Rattle.table.specs.declared.Guard.{Guard}
+use Rattle.table.specs.declared.Guard.the-variants.{Passed}
 use Rattle.anchored.specs.Sheet.{misplaced, tooHigh, tooLow, tooLate}
 use Rattle.shells.specs.Input.{admitOf}
 use Rattle.level.specs.SheetCheck.{sheetOf, checkSheetOf}
 
 -- one vertex, two joined, and a chain of four: the anchored bytes, the levels, the layers
-abbrev single : List ℕ → List ℕ → List ℕ → Checked
+abbrev single : List ℕ → List ℕ → List ℕ → Guard
 single = checkSheetOf (0 ∷ 0 ∷ []) []
 
-abbrev pair : List ℕ → List ℕ → List ℕ → Checked
+abbrev pair : List ℕ → List ℕ → List ℕ → Guard
 pair = checkSheetOf (0 ∷ 1 ∷ 2 ∷ []) (1 ∷ 0 ∷ [])
 
-abbrev chain : List ℕ → List ℕ → List ℕ → Checked
+abbrev chain : List ℕ → List ℕ → List ℕ → Guard
 chain = checkSheetOf (0 ∷ 1 ∷ 3 ∷ 5 ∷ 6 ∷ []) (1 ∷ 0 ∷ 2 ∷ 1 ∷ 3 ∷ 2 ∷ [])
 
 -- nobody of four is anchored
@@ -28,7 +29,7 @@ none = 0 ∷ 0 ∷ 0 ∷ 0 ∷ []
 
 pub cases :
     -- the defined sheet, without anchors and with two
-    (chain none (1 ∷ 1 ∷ 1 ∷ 1 ∷ []) (1 ∷ 2 ∷ 2 ∷ 1 ∷ []) ∷ chain (1 ∷ 0 ∷ 0 ∷ 1 ∷ []) (65535 ∷ 2 ∷ 2 ∷ 65535 ∷ []) (0 ∷ 1 ∷ 1 ∷ 0 ∷ []) ∷ [] ≡ Sound ∷ Sound ∷ [])
+    (chain none (1 ∷ 1 ∷ 1 ∷ 1 ∷ []) (1 ∷ 2 ∷ 2 ∷ 1 ∷ []) ∷ chain (1 ∷ 0 ∷ 0 ∷ 1 ∷ []) (65535 ∷ 2 ∷ 2 ∷ 65535 ∷ []) (0 ∷ 1 ∷ 1 ∷ 0 ∷ []) ∷ [] ≡ Passed ∷ Passed ∷ [])
     -- 13: either half too short
     × (chain none (1 ∷ 1 ∷ 1 ∷ []) (1 ∷ 2 ∷ 2 ∷ 1 ∷ []) ∷ chain none (1 ∷ 1 ∷ 1 ∷ 1 ∷ []) (1 ∷ 2 ∷ 2 ∷ []) ∷ [] ≡ refused 13 0 ∷ refused 13 0 ∷ [])
     -- 14, smallest: a layer 0; an anchored entry of another level, of another layer; an anchored vertex's entry elsewhere
@@ -46,5 +47,5 @@ pub cases :
     -- the lowest vertex of several
     × (chain none (1 ∷ 1 ∷ 1 ∷ 1 ∷ []) (1 ∷ 0 ∷ 2 ∷ 0 ∷ []) ∷ chain none (1 ∷ 3 ∷ 1 ∷ 3 ∷ []) (1 ∷ 2 ∷ 2 ∷ 1 ∷ []) ∷ chain none (1 ∷ 1 ∷ 1 ∷ 1 ∷ []) (1 ∷ 1 ∷ 1 ∷ 1 ∷ []) ∷ chain none (1 ∷ 1 ∷ 1 ∷ 1 ∷ []) (1 ∷ 4 ∷ 6 ∷ 1 ∷ []) ∷ []
     ≡ refused 14 1 ∷ refused 19 1 ∷ refused 20 1 ∷ refused 21 1 ∷ [])
-unfolding checkSheetOf sheetOf admitOf checkOf neighbors badStart beyond looped unsorted unreturned misplaced tooHigh tooLow tooLate pairLe first firstFrom any all ascending below tabulate count
+unfolding answer checkSheetOf sheetOf admitOf checkOf neighbors badStart beyond looped unsorted unreturned misplaced tooHigh tooLow tooLate pairLe first firstFrom any all ascending below tabulate count
 cases = (refl, refl, refl, refl, refl, refl, refl, refl)

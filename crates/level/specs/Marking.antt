@@ -3,17 +3,18 @@ use mathlib.Core.Bool.{cond}
 use mathlib.Core.List.{List}
 use Prim.Native.Nat.{ℕ}
 use lib.Dec.{leb, eqb}
-use Rattle.table.specs.Table.{vertices, refused}
-use Rattle.table.specs.declared.Checked.{Checked}
-use Rattle.table.specs.declared.Checked.the-variants.{Sound}
+use Rattle.table.specs.Table.{vertices}
+use Rattle.table.specs.Guard.{refused}
+use Rattle.table.specs.declared.Guard.{Guard}
+use Rattle.table.specs.declared.Guard.the-variants.{Passed}
 use Rattle.shells.specs.Input.{admitOf}
 use Rattle.level.specs.SheetCheck.{sheetOf}
-use Rattle.level.specs.Answers.{past}
+use Rattle.table.specs.Guard.{past}
 
 -- 13, 14, 19, 20, 21 of the sheet, then 15 for x of n or more, at x
-unfoldable pub vertexOf : List ℕ → List ℕ → List ℕ → List ℕ → List ℕ → ℕ → Checked
-vertexOf s l a lev lay x = past (sheetOf s l a lev lay) (cond (leb (vertices s) x) (refused 15 x) Sound)
+unfoldable pub vertexOf : List ℕ → List ℕ → List ℕ → List ℕ → List ℕ → ℕ → Guard
+vertexOf s l a lev lay x = past (sheetOf s l a lev lay) (cond (leb (vertices s) x) (refused 15 x) Passed)
 
 -- 1 to 10, then 12 for m places for marks where m is not n, then sheet and x
-unfoldable pub markingOf : List ℕ → List ℕ → List ℕ → List ℕ → List ℕ → ℕ → ℕ → Checked
+unfoldable pub markingOf : List ℕ → List ℕ → List ℕ → List ℕ → List ℕ → ℕ → ℕ → Guard
 markingOf s l a lev lay x m = past (admitOf s l a) (cond (eqb m (vertices s)) (vertexOf s l a lev lay x) (refused 12 0))

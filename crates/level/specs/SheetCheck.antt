@@ -6,16 +6,19 @@ use mathlib.Core.List.{List}
 use Prim.Native.Nat.{ℕ, _≤_, _<_}
 use lib.ListN.{length, getD}
 use lib.Dec.{T, eqb}
-use Rattle.table.specs.Table.{vertices, refused, refuse}
-use Rattle.table.specs.declared.Checked.{Checked}
-use Rattle.table.specs.declared.Checked.the-variants.{Sound, Refused}
+use Rattle.table.specs.Table.{vertices}
+use Rattle.table.specs.Guard.{refused, refuse, past}
+use Rattle.table.specs.declared.Guard.{Guard}
+use Rattle.table.specs.declared.Guard.the-variants.{Passed}
 use Rattle.anchored.specs.Core.{level, layer}
 use Rattle.anchored.specs.Sheet.{misplaced, tooHigh, tooLow, tooLate}
 use Rattle.shells.specs.Arrays.{Holds}
 use Rattle.shells.specs.Input.{graphOf, anchoredBy, admitOf}
+use Rattle.level.specs.declared.sheet.SheetChecked.{SheetChecked}
+use Rattle.level.specs.declared.sheet.SheetChecked.the-variants.{Defined, Refused}
 
 -- 13 for either half not n long; then 14, 19, 20 and 21, each tested over the whole sheet, with the lowest vertex that fails it
-unfoldable pub sheetOf : List ℕ → List ℕ → List ℕ → List ℕ → List ℕ → Checked
+unfoldable pub sheetOf : List ℕ → List ℕ → List ℕ → List ℕ → List ℕ → Guard
 sheetOf s l a lev lay =
     let n = vertices s in
     let G = graphOf s l in
@@ -27,11 +30,11 @@ sheetOf s l a lev lay =
     (refuse 14 (misplaced G A levels layers) n
     (refuse 19 (tooHigh G A levels layers) n
     (refuse 20 (tooLow G A levels layers) n
-    (refuse 21 (tooLate G A levels layers) n Sound)))))
+    (refuse 21 (tooLate G A levels layers) n Passed)))))
 
--- the answer of the check: 1 to 8 of the table, 9, 10, 13, 14, 19, 20, 21
-unfoldable pub checkSheetOf : List ℕ → List ℕ → List ℕ → List ℕ → List ℕ → Checked
-checkSheetOf s l a lev lay = elim (admitOf s l a) [ Sound ↦ sheetOf s l a lev lay | Refused r ↦ Refused r ]
+-- what the check refuses: 1 to 8 of the table, 9, 10, 13, 14, 19, 20, 21
+unfoldable pub checkSheetOf : List ℕ → List ℕ → List ℕ → List ℕ → List ℕ → Guard
+checkSheetOf s l a lev lay = past (admitOf s l a) (sheetOf s l a lev lay)
 
 -- ---- what an answer tells
 
@@ -42,13 +45,18 @@ pub record Accepted (s l a lev lay : List ℕ) : Type 0 where
   pub levels-hold : Holds lev (vertices s) (level (graphOf s l) (anchoredBy a))
   pub layers-hold : Holds lay (vertices s) (layer (graphOf s l) (anchoredBy a))
 
+-- the number of an answer; 0 is acceptance
+abbrev pub numberIn : SheetChecked → ℕ
+numberIn Defined = 0
+numberIn (Refused r) = r .number
+
 -- accepted, or refused with 20 or 21
 abbrev pub bounds : ℕ → Bool
 bounds number = eqb number 0 || eqb number 20 || eqb number 21
 
--- what the number of the answer tells of a sheet; 0 is acceptance
+-- what the number of the answer tells of a sheet
 pub record Tells (s l a lev lay : List ℕ) (number : ℕ) : Type 0 where
   -- exactly the defined sheet of an admitted input is accepted
-  pub defined : (number ≡ 0) ↔ ((admitOf s l a ≡ Sound) × Accepted s l a lev lay)
+  pub defined : (number ≡ 0) ↔ ((admitOf s l a ≡ Passed) × Accepted s l a lev lay)
   -- a sheet accepted, or refused with 20 or 21, overstates nobody's level
   pub bounded : T (bounds number) → (v : ℕ) → v < vertices s → getD lev v 0 ≤ level (graphOf s l) (anchoredBy a) v

@@ -2,20 +2,29 @@
 ghost use mathlib.Core.Path.{_≡_};
 ghost use Prim.Native.Nat.{_≤_};
 ghost use lib.ListN.{length, getD};
+ghost use lib.Dec.{eqb};
+ghost use Rattle.finite.specs.Moments.{old, final};
 ghost use Rattle.finite.specs.Count.{tabulate};
-ghost use Rattle.level.specs.Answers.{threeOf};
+ghost use Rattle.finite.specs.Search.{all};
 
-// Whether three lengths are n.
-pub fn are_of(n: usize, first: usize, second: usize, third: usize) -> bool
-    ensures { λ r. ⌜ r ≡ threeOf n first second third ⌝ }
+// Whether every length is n.
+pub fn all_are(lengths: &[usize], n: usize) -> bool
+    ensures { λ r. ⌜ r ≡ all (eqb n) (old lengths) ⌝ }
 {
-    first == n && second == n && third == n
+    let mut i: usize = 0;
+    while i < lengths.len() {
+        if lengths[i] != n {
+            return false;
+        }
+        i += 1;
+    }
+    true
 }
 
 // Copies as many numbers as the slice has places.
 pub fn copy(numbers: &[u16; 1024], to: &mut [u16])
     requires { ⌜ length (now to) ≤ 1024 ⌝ }
-    ensures { λ _. ⌜ now (to .exit) ≡ tabulate (λ v. getD (now (numbers .entry)) v 0) (length (now (to .entry))) ⌝ }
+    ensures { λ _. ⌜ final to ≡ tabulate (λ v. getD (old numbers) v 0) (length (old to)) ⌝ }
 {
     let mut v: usize = 0;
     while v < to.len() {
@@ -27,7 +36,7 @@ pub fn copy(numbers: &[u16; 1024], to: &mut [u16])
 // Copies as many bytes as the slice has places.
 pub fn copy_bytes(bytes: &[u8; 1024], to: &mut [u8])
     requires { ⌜ length (now to) ≤ 1024 ⌝ }
-    ensures { λ _. ⌜ now (to .exit) ≡ tabulate (λ v. getD (now (bytes .entry)) v 0) (length (now (to .entry))) ⌝ }
+    ensures { λ _. ⌜ final to ≡ tabulate (λ v. getD (old bytes) v 0) (length (old to)) ⌝ }
 {
     let mut v: usize = 0;
     while v < to.len() {

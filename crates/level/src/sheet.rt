@@ -5,15 +5,26 @@ ghost use mathlib.Core.Bool.{not, cond, _&&_};
 ghost use Prim.Native.Nat.{ℕ, _-_, _<_};
 ghost use lib.ListN.{length};
 ghost use lib.Dec.{leb, ltb, eqb};
+ghost use Rattle.finite.specs.Moments.{old};
 ghost use Rattle.finite.specs.Count.{count, In};
-ghost use Rattle.table.specs.Table.{vertices, numberOf};
+ghost use Rattle.table.specs.Table.{vertices};
+ghost use Rattle.table.specs.Guard.{answer};
 ghost use Rattle.shells.specs.Input.{Admitted};
-ghost use Rattle.level.specs.SheetCheck.{sheetOf, checkSheetOf, Tells};
+ghost use Rattle.level.specs.SheetCheck.{sheetOf, checkSheetOf, numberIn, Tells};
+ghost use Rattle.level.specs.declared.sheet.SheetChecked.the-variants.{Defined, Refused};
 ghost use Rattle.level.specs.Faults.{HasRow, standsAt, faultOf, Lowest};
+use shells::pair::Layer;
+use shells::pair::Level;
 use shells::pair::Pair;
 
 // In place of a number, where no test fails: above all of them.
 const NONE: u16 = 65535;
+
+// The answer of the check: the sheet is the defined one, or a refusal.
+pub enum SheetChecked {
+    Defined,
+    Refused(table::Refusal),
+}
 
 // The number of a test that fails, and the vertex whose entry fails it.
 struct Fault {
@@ -31,12 +42,12 @@ struct Support {
 // Whether w is anchored, or at or above the pair. The byte decides: in a sheet not yet checked any level may stand anywhere.
 fn stands_at(anchored: &[u8], levels: &[u16], layers: &[u16], pair: Pair, w: usize) -> bool
     requires { ⌜ HasRow (now anchored) (now levels) (now layers) w ⌝ }
-    ensures { λ r. ⌜ r ≡ standsAt (now (anchored .entry)) (now (levels .entry)) (now (layers .entry)) (pair .level .0) (pair .layer .0) w ⌝ }
+    ensures { λ r. ⌜ r ≡ standsAt (old anchored) (old levels) (old layers) (pair .level .0) (pair .layer .0) w ⌝ }
 {
     if anchored[w] == 1 {
         return true;
     }
-    Pair::new(levels[w], layers[w]).at_or_above(pair)
+    Pair::new(Level(levels[w]), Layer(layers[w])).at_or_above(pair)
 }
 
 // The three counts over the neighbors of a vertex with that pair.
@@ -49,14 +60,14 @@ fn count_support(
 ) -> Support
     requires { ⌜ ((w : ℕ) → In w (now part) → HasRow (now anchored) (now levels) (now layers) w) ⌝ }
     requires { ⌜ 0 < pair .layer .0 ⌝ }
-    ensures level { λ r. ⌜ r .level ≡ count (standsAt (now (anchored .entry)) (now (levels .entry)) (now (layers .entry)) (pair .level .0) 0) (now (part .entry)) ⌝ }
-    ensures pair { λ r. ⌜ r .pair ≡ count (standsAt (now (anchored .entry)) (now (levels .entry)) (now (layers .entry)) (pair .level .0) (pair .layer .0)) (now (part .entry)) ⌝ }
-    ensures before { λ r. ⌜ r .before ≡ count (standsAt (now (anchored .entry)) (now (levels .entry)) (now (layers .entry)) (pair .level .0) (pair .layer .0 - 1)) (now (part .entry)) ⌝ }
+    ensures level { λ r. ⌜ r .level ≡ count (standsAt (old anchored) (old levels) (old layers) (pair .level .0) 0) (old part) ⌝ }
+    ensures pair { λ r. ⌜ r .pair ≡ count (standsAt (old anchored) (old levels) (old layers) (pair .level .0) (pair .layer .0)) (old part) ⌝ }
+    ensures before { λ r. ⌜ r .before ≡ count (standsAt (old anchored) (old levels) (old layers) (pair .level .0) (pair .layer .0 - 1)) (old part) ⌝ }
 {
     let level = pair.level.0;
     let layer = pair.layer.0;
-    let lowest = Pair::new(level, 0);
-    let before = Pair::new(level, layer - 1);
+    let lowest = Pair::new(Level(level), Layer(0));
+    let before = Pair::new(Level(level), Layer(layer - 1));
     let mut in_level: usize = 0;
     let mut in_pair: usize = 0;
     let mut in_before: usize = 0;
@@ -115,7 +126,7 @@ fn fault_at(
     requires { ⌜ length (now levels) ≡ vertices (now starts) ⌝ }
     requires { ⌜ length (now layers) ≡ vertices (now starts) ⌝ }
     requires { ⌜ v < vertices (now starts) ⌝ }
-    ensures { λ r. ⌜ r ≡ faultOf (now (starts .entry)) (now (links .entry)) (now (anchored .entry)) (now (levels .entry)) (now (layers .entry)) v ⌝ }
+    ensures { λ r. ⌜ r ≡ faultOf (old starts) (old links) (old anchored) (old levels) (old layers) v ⌝ }
 {
     let level = levels[v];
     let layer = layers[v];
@@ -131,7 +142,7 @@ fn fault_at(
         anchored,
         levels,
         layers,
-        Pair::new(level, layer),
+        Pair::new(Level(level), Layer(layer)),
     );
     counted_fault(level, layer, support)
 }
@@ -147,7 +158,7 @@ fn lowest_fault(
     requires { ⌜ Admitted (now starts) (now links) (now anchored) ⌝ }
     requires { ⌜ length (now levels) ≡ vertices (now starts) ⌝ }
     requires { ⌜ length (now layers) ≡ vertices (now starts) ⌝ }
-    ensures { λ r. ⌜ Lowest (faultOf (now (starts .entry)) (now (links .entry)) (now (anchored .entry)) (now (levels .entry)) (now (layers .entry))) (vertices (now (starts .entry))) (r .number) (r .place) ⌝ }
+    ensures { λ r. ⌜ Lowest (faultOf (old starts) (old links) (old anchored) (old levels) (old layers)) (vertices (old starts)) (r .number) (r .place) ⌝ }
 {
     let n = starts.len() - 1;
     let mut number = NONE;
@@ -164,16 +175,16 @@ fn lowest_fault(
     Fault { number, place }
 }
 
-// Refusals 13, 14, 19, 20 and 21 of an admitted input, or `Sound`.
+// Refusals 13, 14, 19, 20 and 21 of an admitted input, or `Passed`.
 pub fn test_sheet(
     starts: &[u16],
     links: &[u16],
     anchored: &[u8],
     levels: &[u16],
     layers: &[u16],
-) -> table::Checked
+) -> table::Guard
     requires { ⌜ Admitted (now starts) (now links) (now anchored) ⌝ }
-    ensures { λ r. ⌜ r ≡ sheetOf (now (starts .entry)) (now (links .entry)) (now (anchored .entry)) (now (levels .entry)) (now (layers .entry)) ⌝ }
+    ensures { λ r. ⌜ r ≡ sheetOf (old starts) (old links) (old anchored) (old levels) (old layers) ⌝ }
 {
     let n = starts.len() - 1;
     if levels.len() != n {
@@ -184,9 +195,26 @@ pub fn test_sheet(
     }
     let fault = lowest_fault(starts, links, anchored, levels, layers);
     if fault.number == NONE {
-        return table::Checked::Sound;
+        return table::Guard::Passed;
     }
     table::refused(fault.number, fault.place)
+}
+
+// Refusals 1 to 10, 13, 14, 19, 20 and 21, or `Passed`.
+fn test_given(
+    starts: &[u16],
+    links: &[u16],
+    anchored: &[u8],
+    levels: &[u16],
+    layers: &[u16],
+) -> table::Guard
+    ensures { λ r. ⌜ r ≡ checkSheetOf (old starts) (old links) (old anchored) (old levels) (old layers) ⌝ }
+{
+    let admitted = shells::input::admit(starts, links, anchored);
+    match admitted {
+        table::Guard::Refused(refusal) => table::Guard::Refused(refusal),
+        table::Guard::Passed => test_sheet(starts, links, anchored, levels, layers),
+    }
 }
 
 // The check of a level sheet. `tells` says what its answer tells of the sheet.
@@ -196,13 +224,13 @@ pub fn check_sheet(
     anchored: &[u8],
     levels: &[u16],
     layers: &[u16],
-) -> table::Checked
-    ensures answer { λ r. ⌜ r ≡ checkSheetOf (now (starts .entry)) (now (links .entry)) (now (anchored .entry)) (now (levels .entry)) (now (layers .entry)) ⌝ }
-    ensures tells { λ r. ⌜ Tells (now (starts .entry)) (now (links .entry)) (now (anchored .entry)) (now (levels .entry)) (now (layers .entry)) (numberOf r) ⌝ }
+) -> SheetChecked
+    ensures answer { λ r. ⌜ r ≡ answer (checkSheetOf (old starts) (old links) (old anchored) (old levels) (old layers)) Defined Refused ⌝ }
+    ensures tells { λ r. ⌜ Tells (old starts) (old links) (old anchored) (old levels) (old layers) (numberIn r) ⌝ }
 {
-    let admitted = shells::input::admit(starts, links, anchored);
-    match admitted {
-        table::Checked::Refused(refusal) => table::Checked::Refused(refusal),
-        table::Checked::Sound => test_sheet(starts, links, anchored, levels, layers),
+    let tested = test_given(starts, links, anchored, levels, layers);
+    match tested {
+        table::Guard::Refused(refusal) => SheetChecked::Refused(refusal),
+        table::Guard::Passed => SheetChecked::Defined,
     }
 }

@@ -1,9 +1,10 @@
 // What an operation that is handed a level sheet and a vertex refuses, and one that marks vertices besides.
 ghost use mathlib.Core.Path.{_≡_};
+ghost use Rattle.finite.specs.Moments.{old};
 ghost use Rattle.shells.specs.Input.{Admitted};
 ghost use Rattle.level.specs.Marking.{vertexOf, markingOf};
 
-// Refusals 13, 14, 19, 20, 21 and 15 of an admitted input, or `Sound`.
+// Refusals 13, 14, 19, 20, 21 and 15 of an admitted input, or `Passed`.
 pub fn test_vertex(
     starts: &[u16],
     links: &[u16],
@@ -11,23 +12,23 @@ pub fn test_vertex(
     levels: &[u16],
     layers: &[u16],
     x: usize,
-) -> table::Checked
+) -> table::Guard
     requires { ⌜ Admitted (now starts) (now links) (now anchored) ⌝ }
-    ensures { λ r. ⌜ r ≡ vertexOf (now (starts .entry)) (now (links .entry)) (now (anchored .entry)) (now (levels .entry)) (now (layers .entry)) x ⌝ }
+    ensures { λ r. ⌜ r ≡ vertexOf (old starts) (old links) (old anchored) (old levels) (old layers) x ⌝ }
 {
     let accepted = crate::sheet::test_sheet(starts, links, anchored, levels, layers);
     match accepted {
-        table::Checked::Refused(refusal) => table::Checked::Refused(refusal),
-        table::Checked::Sound => {
+        table::Guard::Refused(refusal) => table::Guard::Refused(refusal),
+        table::Guard::Passed => {
             if starts.len() - 1 <= x {
                 return table::refused(15, x);
             }
-            table::Checked::Sound
+            table::Guard::Passed
         }
     }
 }
 
-// The refusals of an operation with `room` places for marks, or `Sound`.
+// The refusals of an operation with `room` places for marks, or `Passed`.
 pub fn test_marking(
     starts: &[u16],
     links: &[u16],
@@ -36,13 +37,13 @@ pub fn test_marking(
     layers: &[u16],
     x: usize,
     room: usize,
-) -> table::Checked
-    ensures { λ r. ⌜ r ≡ markingOf (now (starts .entry)) (now (links .entry)) (now (anchored .entry)) (now (levels .entry)) (now (layers .entry)) x room ⌝ }
+) -> table::Guard
+    ensures { λ r. ⌜ r ≡ markingOf (old starts) (old links) (old anchored) (old levels) (old layers) x room ⌝ }
 {
     let admitted = shells::input::admit(starts, links, anchored);
     match admitted {
-        table::Checked::Refused(refusal) => table::Checked::Refused(refusal),
-        table::Checked::Sound => {
+        table::Guard::Refused(refusal) => table::Guard::Refused(refusal),
+        table::Guard::Passed => {
             if room != starts.len() - 1 {
                 return table::refused(12, 0);
             }

@@ -1,31 +1,39 @@
 // Working the sheet of a table: levels, layers and components into slices of n.
 ghost use mathlib.Core.Path.{_≡_};
+ghost use mathlib.Core.List.{[], _∷_, map};
 ghost use lib.ListN.{length};
+ghost use Rattle.finite.specs.Moments.{old, final};
 ghost use Rattle.finite.specs.Count.{tabulate};
 ghost use Rattle.table.specs.Table.{vertices};
+ghost use Rattle.table.specs.Guard.{answer, held};
 ghost use Rattle.anchored.specs.Core.{level as levelOf, layer as layerOf};
 ghost use Rattle.anchored.specs.Component.{component as componentOf};
 ghost use Rattle.shells.specs.Input.{graphOf, anchoredBy, Admitted};
 ghost use Rattle.shells.specs.Arrays.{Holds};
-ghost use Rattle.level.specs.Answers.{workOf, written};
+ghost use Rattle.level.specs.Answers.{workOf};
+ghost use Rattle.level.specs.declared.work.Worked.the-variants.{Done, Refused};
 
-// Refusals 1 to 10, and 12 for three slices that are not all of n, or `Sound`.
+// The answer of the working: the slices are filled, or a refusal.
+pub enum Worked {
+    Done,
+    Refused(table::Refusal),
+}
+
+// Refusals 1 to 10, and 12 for lent slices of which not all are of n, or `Passed`.
 pub fn admit_slices(
     starts: &[u16],
     links: &[u16],
     anchored: &[u8],
-    first: usize,
-    second: usize,
-    third: usize,
-) -> table::Checked
-    ensures { λ r. ⌜ r ≡ workOf (now (starts .entry)) (now (links .entry)) (now (anchored .entry)) first second third ⌝ }
+    lengths: &[usize],
+) -> table::Guard
+    ensures { λ r. ⌜ r ≡ workOf (old starts) (old links) (old anchored) (old lengths) ⌝ }
 {
     let admitted = shells::input::admit(starts, links, anchored);
     match admitted {
-        table::Checked::Refused(refusal) => table::Checked::Refused(refusal),
-        table::Checked::Sound => {
-            if crate::lent::are_of(starts.len() - 1, first, second, third) {
-                return table::Checked::Sound;
+        table::Guard::Refused(refusal) => table::Guard::Refused(refusal),
+        table::Guard::Passed => {
+            if crate::lent::all_are(lengths, starts.len() - 1) {
+                return table::Guard::Passed;
             }
             table::refused(12, 0)
         }
@@ -42,9 +50,9 @@ pub fn fill(
     component: &mut [u16; 1024],
 )
     requires { ⌜ Admitted (now starts) (now links) (now anchored) ⌝ }
-    ensures levels { λ _. ⌜ Holds (now (level .exit)) (vertices (now (starts .entry))) (levelOf (graphOf (now (starts .entry)) (now (links .entry))) (anchoredBy (now (anchored .entry)))) ⌝ }
-    ensures layers { λ _. ⌜ Holds (now (layer .exit)) (vertices (now (starts .entry))) (layerOf (graphOf (now (starts .entry)) (now (links .entry))) (anchoredBy (now (anchored .entry)))) ⌝ }
-    ensures components { λ _. ⌜ Holds (now (component .exit)) (vertices (now (starts .entry))) (componentOf (graphOf (now (starts .entry)) (now (links .entry))) (anchoredBy (now (anchored .entry)))) ⌝ }
+    ensures levels { λ _. ⌜ Holds (final level) (vertices (old starts)) (levelOf (graphOf (old starts) (old links)) (anchoredBy (old anchored))) ⌝ }
+    ensures layers { λ _. ⌜ Holds (final layer) (vertices (old starts)) (layerOf (graphOf (old starts) (old links)) (anchoredBy (old anchored))) ⌝ }
+    ensures components { λ _. ⌜ Holds (final component) (vertices (old starts)) (componentOf (graphOf (old starts) (old links)) (anchoredBy (old anchored))) ⌝ }
 {
     shells::peel::peel(starts, links, anchored, level, layer);
     shells::flood::flood(starts, links, anchored, &level[..], component);
@@ -63,9 +71,9 @@ fn write_sheet(
     requires { ⌜ length (now levels) ≡ vertices (now starts) ⌝ }
     requires { ⌜ length (now layers) ≡ vertices (now starts) ⌝ }
     requires { ⌜ length (now components) ≡ vertices (now starts) ⌝ }
-    ensures levels { λ _. ⌜ now (levels .exit) ≡ tabulate (levelOf (graphOf (now (starts .entry)) (now (links .entry))) (anchoredBy (now (anchored .entry)))) (vertices (now (starts .entry))) ⌝ }
-    ensures layers { λ _. ⌜ now (layers .exit) ≡ tabulate (layerOf (graphOf (now (starts .entry)) (now (links .entry))) (anchoredBy (now (anchored .entry)))) (vertices (now (starts .entry))) ⌝ }
-    ensures components { λ _. ⌜ now (components .exit) ≡ tabulate (componentOf (graphOf (now (starts .entry)) (now (links .entry))) (anchoredBy (now (anchored .entry)))) (vertices (now (starts .entry))) ⌝ }
+    ensures levels { λ _. ⌜ final levels ≡ tabulate (levelOf (graphOf (old starts) (old links)) (anchoredBy (old anchored))) (vertices (old starts)) ⌝ }
+    ensures layers { λ _. ⌜ final layers ≡ tabulate (layerOf (graphOf (old starts) (old links)) (anchoredBy (old anchored))) (vertices (old starts)) ⌝ }
+    ensures components { λ _. ⌜ final components ≡ tabulate (componentOf (graphOf (old starts) (old links)) (anchoredBy (old anchored))) (vertices (old starts)) ⌝ }
 {
     let mut level = [0u16; 1024];
     let mut layer = [0u16; 1024];
@@ -91,25 +99,27 @@ pub fn work(
     levels: &mut [u16],
     layers: &mut [u16],
     components: &mut [u16],
-) -> table::Checked
-    ensures answer { λ r. ⌜ r ≡ workOf (now (starts .entry)) (now (links .entry)) (now (anchored .entry)) (length (now (levels .entry))) (length (now (layers .entry))) (length (now (components .entry))) ⌝ }
-    ensures levels { λ r. ⌜ now (levels .exit) ≡ written r (tabulate (levelOf (graphOf (now (starts .entry)) (now (links .entry))) (anchoredBy (now (anchored .entry)))) (vertices (now (starts .entry)))) (now (levels .entry)) ⌝ }
-    ensures layers { λ r. ⌜ now (layers .exit) ≡ written r (tabulate (layerOf (graphOf (now (starts .entry)) (now (links .entry))) (anchoredBy (now (anchored .entry)))) (vertices (now (starts .entry)))) (now (layers .entry)) ⌝ }
-    ensures components { λ r. ⌜ now (components .exit) ≡ written r (tabulate (componentOf (graphOf (now (starts .entry)) (now (links .entry))) (anchoredBy (now (anchored .entry)))) (vertices (now (starts .entry)))) (now (components .entry)) ⌝ }
+) -> Worked
+    ensures { λ r.
+        let G = graphOf (old starts) (old links) in
+        let A = anchoredBy (old anchored) in
+        let guard = workOf (old starts) (old links) (old anchored) (map length (old levels ∷ old layers ∷ old components ∷ [])) in
+        ⌜ (r ≡ answer guard Done Refused)
+        × (final levels ≡ held guard (tabulate (levelOf G A) (G .size)) (old levels))
+        × (final layers ≡ held guard (tabulate (layerOf G A) (G .size)) (old layers))
+        × (final components ≡ held guard (tabulate (componentOf G A) (G .size)) (old components)) ⌝ }
 {
     let admitted = admit_slices(
         starts,
         links,
         anchored,
-        levels.len(),
-        layers.len(),
-        components.len(),
+        &[levels.len(), layers.len(), components.len()],
     );
     match admitted {
-        table::Checked::Refused(refusal) => table::Checked::Refused(refusal),
-        table::Checked::Sound => {
+        table::Guard::Refused(refusal) => Worked::Refused(refusal),
+        table::Guard::Passed => {
             write_sheet(starts, links, anchored, levels, layers, components);
-            table::Checked::Sound
+            Worked::Done
         }
     }
 }

@@ -3,6 +3,7 @@ ghost use mathlib.Core.Path.{_≡_};
 ghost use Prim.Native.Nat.{_+_, _≤_};
 ghost use lib.ListN.{length};
 ghost use lib.Seq.{sets};
+ghost use Rattle.finite.specs.Moments.{old, final};
 ghost use Rattle.lines.specs.List.{firstBeyond, anchor};
 ghost use Rattle.lines.specs.Line.{ridersAt, riderAt, retainedAt, roundsAt, numberOfForm, keptForm, keptList};
 ghost use Rattle.lines.specs.declared.line.Form.{Form};
@@ -49,7 +50,7 @@ pub fn number_of(form: Form) -> u16
 
 // `(riders n)`
 pub fn riders_line(text: &[u8], from: Cursor, number: usize) -> LineRead
-    ensures { λ r. ⌜ r ≡ keptForm number Form.Riders (ridersAt (now (text .entry)) (from .at)) ⌝ }
+    ensures { λ r. ⌜ r ≡ keptForm number Form.Riders (ridersAt (old text) (from .at)) ⌝ }
 {
     let Number::Value(n, next) = take_form(text, from, b"(riders ", b")\n") else {
         return LineRead::Departs;
@@ -68,8 +69,8 @@ pub fn rider_line(
     before: usize,
 ) -> LineRead
     requires { ⌜ before ≤ from .at ⌝ }
-    ensures { λ r. ⌜ r ≡ keptList number (Form.Rider v) (before + length (riderAt (now (text .entry)) v (from .at) .values)) (riderAt (now (text .entry)) v (from .at)) ⌝ }
-    ensures { λ _. ⌜ now (links .exit) ≡ sets (now (links .entry)) before (riderAt (now (text .entry)) v (from .at) .values) ⌝ }
+    ensures { λ r. ⌜ r ≡ keptList number (Form.Rider v) (before + length (riderAt (old text) v (from .at) .values)) (riderAt (old text) v (from .at)) ⌝ }
+    ensures { λ _. ⌜ final links ≡ sets (old links) before (riderAt (old text) v (from .at) .values) ⌝ }
 {
     let Number::Value(rider, first) = take_form(text, from, b"(rider ", b" (with") else {
         return LineRead::Departs;
@@ -95,8 +96,8 @@ pub fn retained_line(
     n: u16,
     anchored: &mut [u8],
 ) -> LineRead
-    ensures { λ r. ⌜ r ≡ keptList number Form.Retained (firstBeyond n (retainedAt (now (text .entry)) (from .at) .values)) (retainedAt (now (text .entry)) (from .at)) ⌝ }
-    ensures { λ _. ⌜ now (anchored .exit) ≡ anchor (now (anchored .entry)) (retainedAt (now (text .entry)) (from .at) .values) ⌝ }
+    ensures { λ r. ⌜ r ≡ keptList number Form.Retained (firstBeyond n (retainedAt (old text) (from .at) .values)) (retainedAt (old text) (from .at)) ⌝ }
+    ensures { λ _. ⌜ final anchored ≡ anchor (old anchored) (retainedAt (old text) (from .at) .values) ⌝ }
 {
     let Next::To(first) = skip(text, from, b"(retained") else {
         return LineRead::Departs;
@@ -113,7 +114,7 @@ pub fn retained_line(
 
 // `(rounds r)`
 pub fn rounds_line(text: &[u8], from: Cursor, number: usize) -> LineRead
-    ensures { λ r. ⌜ r ≡ keptForm number Form.Rounds (roundsAt (now (text .entry)) (from .at)) ⌝ }
+    ensures { λ r. ⌜ r ≡ keptForm number Form.Rounds (roundsAt (old text) (from .at)) ⌝ }
 {
     let Number::Value(r, next) = take_form(text, from, b"(rounds ", b")\n") else {
         return LineRead::Departs;

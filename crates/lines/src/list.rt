@@ -5,6 +5,7 @@ ghost use Prim.Native.Nat.{_≤_};
 ghost use lib.ListN.{set};
 ghost use lib.Seq.{sets};
 ghost use lib.Dec.{leb};
+ghost use Rattle.finite.specs.Moments.{old, final};
 ghost use Rattle.lines.specs.List.{listAt, listedOf, orBeyond, retainedOf, anchor as anchorOf};
 use reader::held::byte_at;
 use reader::held::take_number;
@@ -22,7 +23,7 @@ pub enum Listed {
 
 // Stores the number where there is room for it.
 pub fn store(numbers: &mut [u16], place: usize, number: u16)
-    ensures { λ _. ⌜ now (numbers .exit) ≡ set (now (numbers .entry)) place number ⌝ }
+    ensures { λ _. ⌜ final numbers ≡ set (old numbers) place number ⌝ }
 {
     if place < numbers.len() {
         numbers[place] = number;
@@ -32,8 +33,8 @@ pub fn store(numbers: &mut [u16], place: usize, number: u16)
 // A list of neighbors goes to the links from a place on. The count is that of all links so far, stored or not.
 pub fn take_neighbors(text: &[u8], from: Cursor, links: &mut [u16], before: usize) -> Listed
     requires { ⌜ before ≤ from .at ⌝ }
-    ensures { λ r. ⌜ r ≡ listedOf before (listAt (now (text .entry)) (from .at)) ⌝ }
-    ensures { λ _. ⌜ now (links .exit) ≡ sets (now (links .entry)) before (listAt (now (text .entry)) (from .at) .values) ⌝ }
+    ensures { λ r. ⌜ r ≡ listedOf before (listAt (old text) (from .at)) ⌝ }
+    ensures { λ _. ⌜ final links ≡ sets (old links) before (listAt (old text) (from .at) .values) ⌝ }
 {
     let mut place = from.at;
     let mut count = before;
@@ -69,7 +70,7 @@ fn first_beyond(beyond: usize, n: u16, v: u16) -> usize
 
 // Sets the anchored byte of `v`, where there is one.
 fn anchor(anchored: &mut [u8], v: u16)
-    ensures { λ _. ⌜ now (anchored .exit) ≡ set (now (anchored .entry)) v 1 ⌝ }
+    ensures { λ _. ⌜ final anchored ≡ set (old anchored) v 1 ⌝ }
 {
     let place = v as usize;
     if place < anchored.len() {
@@ -79,8 +80,8 @@ fn anchor(anchored: &mut [u8], v: u16)
 
 // The list of the retained, strictly ascending, goes to the anchored bytes. The number is the first of n or more.
 pub fn take_retained(text: &[u8], from: Cursor, n: u16, anchored: &mut [u8]) -> Listed
-    ensures { λ r. ⌜ r ≡ retainedOf n (listAt (now (text .entry)) (from .at)) ⌝ }
-    ensures { λ _. ⌜ now (anchored .exit) ≡ anchorOf (now (anchored .entry)) (listAt (now (text .entry)) (from .at) .values) ⌝ }
+    ensures { λ r. ⌜ r ≡ retainedOf n (listAt (old text) (from .at)) ⌝ }
+    ensures { λ _. ⌜ final anchored ≡ anchorOf (old anchored) (listAt (old text) (from .at) .values) ⌝ }
 {
     let mut place = from.at;
     let mut ascending = true;

@@ -1,6 +1,7 @@
 // The numbers of an answer, as Rust and C get them.
 ghost use mathlib.Core.Path.{_≡_};
-ghost use Rattle.numbers.specs.Numbers.{numbers, checkedAs, listedAs, searchedAs, answeredAs};
+ghost use Rattle.numbers.specs.Numbers.{acceptedAs, refusedAs, answeredAs};
+ghost use Rattle.numbers.specs.Numbers.{checkedAs, workedAs, levelsAs, listedAs, searchedAs, collapsedAs, ranAs};
 
 // 0 and the values of an accepted call, or a refusal's number and place.
 #[repr(C)]
@@ -12,7 +13,7 @@ pub struct Answer {
 
 // An accepted call: 0 and its values.
 fn accepted(first: usize, second: usize) -> Answer
-    ensures { λ r. ⌜ r ≡ numbers 0 first second ⌝ }
+    ensures { λ r. ⌜ r ≡ acceptedAs first second ⌝ }
 {
     Answer {
         number: 0,
@@ -23,7 +24,7 @@ fn accepted(first: usize, second: usize) -> Answer
 
 // A refused call: the number and the place.
 fn refused(refusal: table::Refusal) -> Answer
-    ensures { λ r. ⌜ r ≡ numbers (refusal .number) (refusal .place) 0 ⌝ }
+    ensures { λ r. ⌜ r ≡ refusedAs refusal ⌝ }
 {
     Answer {
         number: refusal.number as u64,
@@ -38,6 +39,24 @@ pub fn of_checked(checked: table::Checked) -> Answer
     match checked {
         table::Checked::Sound => accepted(0, 0),
         table::Checked::Refused(refusal) => refused(refusal),
+    }
+}
+
+pub fn of_worked(worked: level::work::Worked) -> Answer
+    ensures { λ r. ⌜ r ≡ workedAs worked ⌝ }
+{
+    match worked {
+        level::work::Worked::Done => accepted(0, 0),
+        level::work::Worked::Refused(refusal) => refused(refusal),
+    }
+}
+
+pub fn of_levels(checked: level::sheet::SheetChecked) -> Answer
+    ensures { λ r. ⌜ r ≡ levelsAs checked ⌝ }
+{
+    match checked {
+        level::sheet::SheetChecked::Defined => accepted(0, 0),
+        level::sheet::SheetChecked::Refused(refusal) => refused(refusal),
     }
 }
 
@@ -56,6 +75,24 @@ pub fn of_searched(searched: search::Searched) -> Answer
     match searched {
         search::Searched::Found(lifted, reached) => accepted(lifted, reached),
         search::Searched::Refused(refusal) => refused(refusal),
+    }
+}
+
+pub fn of_collapsed(collapsed: collapse::Collapsed) -> Answer
+    ensures { λ r. ⌜ r ≡ collapsedAs collapsed ⌝ }
+{
+    match collapsed {
+        collapse::Collapsed::Marked => accepted(0, 0),
+        collapse::Collapsed::Refused(refusal) => refused(refusal),
+    }
+}
+
+pub fn of_ran(ran: session::run::Ran) -> Answer
+    ensures { λ r. ⌜ r ≡ ranAs ran ⌝ }
+{
+    match ran {
+        session::run::Ran::Served => accepted(0, 0),
+        session::run::Ran::Refused(refusal) => refused(refusal),
     }
 }
 

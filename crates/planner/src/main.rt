@@ -2,6 +2,7 @@
 ghost use mathlib.Core.Path.{_≡_};
 ghost use Prim.Native.Nat.{_≤_};
 ghost use lib.ListN.{length, take};
+ghost use Rattle.finite.specs.Moments.{old, final};
 ghost use Rattle.io.specs.Counts.{Counts};
 ghost use Rattle.answer.specs.Answer.{answerOf, sheetOfText, printed};
 use libc::STDIN_FILENO;
@@ -10,8 +11,8 @@ use libc::STDOUT_FILENO;
 // What is printed for a text, at the front of `out`, and its length.
 fn print(text: &[u8], out: &mut [u8]) -> usize
     requires { ⌜ 52 ≤ length (now out) ⌝ }
-    ensures counts { λ r. ⌜ Counts r (now (out .exit)) ⌝ }
-    ensures printed { λ r. ⌜ take r (now (out .exit)) ≡ printed (answerOf (now (text .entry)) (length (now (out .entry)))) (sheetOfText (now (text .entry))) ⌝ }
+    ensures counts { λ r. ⌜ Counts r (final out) ⌝ }
+    ensures printed { λ r. ⌜ take r (final out) ≡ printed (answerOf (old text) (length (old out))) (sheetOfText (old text)) ⌝ }
 {
     let answer = answer::text_to_sheet(text, out);
     match answer {

@@ -1,18 +1,21 @@
 // Levels, layers, components; the check of a sheet; the search; the collapse. `tells` is what the number that answers the check tells of the sheet.
 ghost use mathlib.Core.Path.{_≡_};
+ghost use mathlib.Core.List.{[], _∷_, map};
 ghost use lib.ListN.{length};
-ghost use Rattle.finite.specs.Count.{tabulate};
-ghost use Rattle.table.specs.Table.{vertices};
+ghost use Rattle.finite.specs.Moments.{old, final};
+ghost use Rattle.finite.specs.Count.{tabulate, count, below};
+ghost use Rattle.table.specs.Guard.{answer, held, front};
 ghost use Rattle.anchored.specs.Core.{level, layer};
-ghost use Rattle.anchored.specs.Component.{component};
+ghost use Rattle.anchored.specs.Component.{component, heads};
+ghost use Rattle.anchored.specs.Followers.{followers, reached};
 ghost use Rattle.shells.specs.Input.{graphOf, anchoredBy};
 ghost use Rattle.level.specs.SheetCheck.{checkSheetOf, Tells};
 ghost use Rattle.level.specs.Marking.{markingOf};
-ghost use Rattle.level.specs.Answers.{workOf, written};
-ghost use Rattle.components.specs.Answers.{listOf, numbersOf, levelsOf, sizesOf, listed};
-ghost use Rattle.search.specs.Answers.{followersOf, marksOf, marked};
+ghost use Rattle.level.specs.Answers.{workOf};
+ghost use Rattle.components.specs.Answers.{numbersOf, levelsOf, sizesOf};
+ghost use Rattle.search.specs.Answers.{searchOf, marksOf};
 ghost use Rattle.collapse.specs.Answers.{fallMarksOf};
-ghost use Rattle.numbers.specs.Numbers.{checkedAs, listedAs, searchedAs};
+ghost use Rattle.numbers.specs.Numbers.{acceptedAs, refusedAs};
 use numbers::Answer;
 
 #[no_mangle]
@@ -24,12 +27,16 @@ pub extern "C" fn planner_work(
     layers: &mut [u16],
     components: &mut [u16],
 ) -> Answer
-    ensures answer { λ r. ⌜ r ≡ checkedAs (workOf (now (starts .entry)) (now (links .entry)) (now (anchored .entry)) (length (now (levels .entry))) (length (now (layers .entry))) (length (now (components .entry)))) ⌝ }
-    ensures levels { λ r. ⌜ now (levels .exit) ≡ written (workOf (now (starts .entry)) (now (links .entry)) (now (anchored .entry)) (length (now (levels .entry))) (length (now (layers .entry))) (length (now (components .entry)))) (tabulate (level (graphOf (now (starts .entry)) (now (links .entry))) (anchoredBy (now (anchored .entry)))) (vertices (now (starts .entry)))) (now (levels .entry)) ⌝ }
-    ensures layers { λ r. ⌜ now (layers .exit) ≡ written (workOf (now (starts .entry)) (now (links .entry)) (now (anchored .entry)) (length (now (levels .entry))) (length (now (layers .entry))) (length (now (components .entry)))) (tabulate (layer (graphOf (now (starts .entry)) (now (links .entry))) (anchoredBy (now (anchored .entry)))) (vertices (now (starts .entry)))) (now (layers .entry)) ⌝ }
-    ensures components { λ r. ⌜ now (components .exit) ≡ written (workOf (now (starts .entry)) (now (links .entry)) (now (anchored .entry)) (length (now (levels .entry))) (length (now (layers .entry))) (length (now (components .entry)))) (tabulate (component (graphOf (now (starts .entry)) (now (links .entry))) (anchoredBy (now (anchored .entry)))) (vertices (now (starts .entry)))) (now (components .entry)) ⌝ }
+    ensures { λ r.
+        let G = graphOf (old starts) (old links) in
+        let A = anchoredBy (old anchored) in
+        let guard = workOf (old starts) (old links) (old anchored) (map length (old levels ∷ old layers ∷ old components ∷ [])) in
+        ⌜ (r ≡ answer guard (acceptedAs 0 0) refusedAs)
+        × (final levels ≡ held guard (tabulate (level G A) (G .size)) (old levels))
+        × (final layers ≡ held guard (tabulate (layer G A) (G .size)) (old layers))
+        × (final components ≡ held guard (tabulate (component G A) (G .size)) (old components)) ⌝ }
 {
-    numbers::of_checked(level::work::work(starts, links, anchored, levels, layers, components))
+    numbers::of_worked(level::work::work(starts, links, anchored, levels, layers, components))
 }
 
 #[no_mangle]
@@ -41,10 +48,13 @@ pub extern "C" fn planner_list_components(
     sizes: &mut [u16],
     numbers: &mut [u16],
 ) -> Answer
-    ensures answer { λ r. ⌜ r ≡ listedAs (listOf (now (starts .entry)) (now (links .entry)) (now (anchored .entry)) (length (now (levels .entry))) (length (now (sizes .entry))) (length (now (numbers .entry)))) ⌝ }
-    ensures levels { λ r. ⌜ now (levels .exit) ≡ listed (listOf (now (starts .entry)) (now (links .entry)) (now (anchored .entry)) (length (now (levels .entry))) (length (now (sizes .entry))) (length (now (numbers .entry)))) (levelsOf (now (starts .entry)) (now (links .entry)) (now (anchored .entry))) (now (levels .entry)) ⌝ }
-    ensures sizes { λ r. ⌜ now (sizes .exit) ≡ listed (listOf (now (starts .entry)) (now (links .entry)) (now (anchored .entry)) (length (now (levels .entry))) (length (now (sizes .entry))) (length (now (numbers .entry)))) (sizesOf (now (starts .entry)) (now (links .entry)) (now (anchored .entry))) (now (sizes .entry)) ⌝ }
-    ensures numbers { λ r. ⌜ now (numbers .exit) ≡ listed (listOf (now (starts .entry)) (now (links .entry)) (now (anchored .entry)) (length (now (levels .entry))) (length (now (sizes .entry))) (length (now (numbers .entry)))) (numbersOf (now (starts .entry)) (now (links .entry)) (now (anchored .entry))) (now (numbers .entry)) ⌝ }
+    ensures { λ r.
+        let guard = workOf (old starts) (old links) (old anchored) (map length (old levels ∷ old sizes ∷ old numbers ∷ [])) in
+        let G = graphOf (old starts) (old links) in
+        ⌜ (r ≡ answer guard (acceptedAs (count (heads G (anchoredBy (old anchored))) (below (G .size))) 0) refusedAs)
+        × (final levels ≡ held guard (front (levelsOf (old starts) (old links) (old anchored)) (old levels)) (old levels))
+        × (final sizes ≡ held guard (front (sizesOf (old starts) (old links) (old anchored)) (old sizes)) (old sizes))
+        × (final numbers ≡ held guard (front (numbersOf (old starts) (old links) (old anchored)) (old numbers)) (old numbers)) ⌝ }
 {
     numbers::of_listed(components::list_components(starts, links, anchored, levels, sizes, numbers))
 }
@@ -57,10 +67,10 @@ pub extern "C" fn planner_check_sheet(
     levels: &[u16],
     layers: &[u16],
 ) -> Answer
-    ensures answer { λ r. ⌜ r ≡ checkedAs (checkSheetOf (now (starts .entry)) (now (links .entry)) (now (anchored .entry)) (now (levels .entry)) (now (layers .entry))) ⌝ }
-    ensures tells { λ r. ⌜ Tells (now (starts .entry)) (now (links .entry)) (now (anchored .entry)) (now (levels .entry)) (now (layers .entry)) (r .number) ⌝ }
+    ensures answer { λ r. ⌜ r ≡ answer (checkSheetOf (old starts) (old links) (old anchored) (old levels) (old layers)) (acceptedAs 0 0) refusedAs ⌝ }
+    ensures tells { λ r. ⌜ Tells (old starts) (old links) (old anchored) (old levels) (old layers) (r .number) ⌝ }
 {
-    numbers::of_checked(level::sheet::check_sheet(starts, links, anchored, levels, layers))
+    numbers::of_levels(level::sheet::check_sheet(starts, links, anchored, levels, layers))
 }
 
 #[no_mangle]
@@ -73,8 +83,12 @@ pub extern "C" fn planner_followers(
     x: usize,
     marks: &mut [u8],
 ) -> Answer
-    ensures answer { λ r. ⌜ r ≡ searchedAs (followersOf (now (starts .entry)) (now (links .entry)) (now (anchored .entry)) (now (levels .entry)) (now (layers .entry)) x (length (now (marks .entry)))) ⌝ }
-    ensures marks { λ r. ⌜ now (marks .exit) ≡ marked (followersOf (now (starts .entry)) (now (links .entry)) (now (anchored .entry)) (now (levels .entry)) (now (layers .entry)) x (length (now (marks .entry)))) (marksOf (now (starts .entry)) (now (links .entry)) (now (anchored .entry)) x) (now (marks .entry)) ⌝ }
+    ensures { λ r.
+        let G = graphOf (old starts) (old links) in
+        let A = anchoredBy (old anchored) in
+        let guard = searchOf (old starts) (old links) (old anchored) (old levels) (old layers) x (length (old marks)) in
+        ⌜ (r ≡ answer guard (acceptedAs (followers G A x) (reached G A x)) refusedAs)
+        × (final marks ≡ held guard (marksOf (old starts) (old links) (old anchored) x) (old marks)) ⌝ }
 {
     numbers::of_searched(search::followers(starts, links, anchored, levels, layers, x, marks))
 }
@@ -89,8 +103,10 @@ pub extern "C" fn planner_collapse(
     x: usize,
     marks: &mut [u8],
 ) -> Answer
-    ensures answer { λ r. ⌜ r ≡ checkedAs (markingOf (now (starts .entry)) (now (links .entry)) (now (anchored .entry)) (now (levels .entry)) (now (layers .entry)) x (length (now (marks .entry)))) ⌝ }
-    ensures marks { λ r. ⌜ now (marks .exit) ≡ written (markingOf (now (starts .entry)) (now (links .entry)) (now (anchored .entry)) (now (levels .entry)) (now (layers .entry)) x (length (now (marks .entry)))) (fallMarksOf (now (starts .entry)) (now (links .entry)) (now (anchored .entry)) x) (now (marks .entry)) ⌝ }
+    ensures { λ r.
+        let guard = markingOf (old starts) (old links) (old anchored) (old levels) (old layers) x (length (old marks)) in
+        ⌜ (r ≡ answer guard (acceptedAs 0 0) refusedAs)
+        × (final marks ≡ held guard (fallMarksOf (old starts) (old links) (old anchored) x) (old marks)) ⌝ }
 {
-    numbers::of_checked(collapse::collapse(starts, links, anchored, levels, layers, x, marks))
+    numbers::of_collapsed(collapse::collapse(starts, links, anchored, levels, layers, x, marks))
 }

@@ -1,8 +1,10 @@
 // A session over a list of requests. `claim` is demand 3 of document 01, of every call that answers 0.
 ghost use mathlib.Core.Path.{_≡_};
-ghost use Rattle.session.specs.Run.{slices, runOf, ended, left};
+ghost use Rattle.finite.specs.Moments.{old, final};
+ghost use Rattle.table.specs.Guard.{answer, held};
+ghost use Rattle.session.specs.Run.{slices, runOf, ended};
 ghost use Rattle.session.specs.Claim.{Claim};
-ghost use Rattle.numbers.specs.Numbers.{checkedAs};
+ghost use Rattle.numbers.specs.Numbers.{acceptedAs, refusedAs};
 use numbers::Answer;
 
 #[no_mangle]
@@ -21,11 +23,14 @@ pub extern "C" fn planner_run(
     lifted: &mut [u16],
     redone: &mut [u16],
 ) -> Answer
-    ensures answer { λ r. ⌜ r ≡ checkedAs (runOf (now (starts .entry)) (now (links .entry)) (now (given .entry)) (now (requests .entry)) (slices (now (anchored .entry)) (now (levels .entry)) (now (layers .entry)) (now (components .entry)) (now (followers .entry)) (now (stamps .entry)) (now (status .entry)) (now (lifted .entry)) (now (redone .entry)))) ⌝ }
-    ensures slices { λ r. ⌜ slices (now (anchored .exit)) (now (levels .exit)) (now (layers .exit)) (now (components .exit)) (now (followers .exit)) (now (stamps .exit)) (now (status .exit)) (now (lifted .exit)) (now (redone .exit)) ≡ left (runOf (now (starts .entry)) (now (links .entry)) (now (given .entry)) (now (requests .entry)) (slices (now (anchored .entry)) (now (levels .entry)) (now (layers .entry)) (now (components .entry)) (now (followers .entry)) (now (stamps .entry)) (now (status .entry)) (now (lifted .entry)) (now (redone .entry)))) (ended (now (starts .entry)) (now (links .entry)) (now (given .entry)) (now (requests .entry))) (slices (now (anchored .entry)) (now (levels .entry)) (now (layers .entry)) (now (components .entry)) (now (followers .entry)) (now (stamps .entry)) (now (status .entry)) (now (lifted .entry)) (now (redone .entry))) ⌝ }
-    ensures claim { λ r. ⌜ (r .number ≡ 0 → Claim (now (starts .entry)) (now (links .entry)) (now (given .entry)) (now (requests .entry))) ⌝ }
+    ensures { λ r.
+        let lent = slices (old anchored) (old levels) (old layers) (old components) (old followers) (old stamps) (old status) (old lifted) (old redone) in
+        let after = slices (final anchored) (final levels) (final layers) (final components) (final followers) (final stamps) (final status) (final lifted) (final redone) in
+        let guard = runOf (old starts) (old links) (old given) (old requests) lent in
+        ⌜ (r ≡ answer guard (acceptedAs 0 0) refusedAs) × (after ≡ held guard (ended (old starts) (old links) (old given) (old requests)) lent) ⌝ }
+    ensures claim { λ r. ⌜ (r .number ≡ 0 → Claim (old starts) (old links) (old given) (old requests)) ⌝ }
 {
-    numbers::of_checked(session::run::run(
+    numbers::of_ran(session::run::run(
         starts,
         links,
         given,

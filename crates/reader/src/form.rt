@@ -1,5 +1,6 @@
 // Constant bytes of the text, and the form that has one number between them.
 ghost use mathlib.Core.Path.{_≡_};
+ghost use Rattle.finite.specs.Moments.{old};
 ghost use Rattle.reader.specs.Form.{skipAt, formAt};
 use crate::held::byte_at;
 use crate::held::take_number;
@@ -14,7 +15,7 @@ pub enum Next {
 
 // Past constant bytes.
 pub fn skip(text: &[u8], from: Cursor, bytes: &[u8]) -> Next
-    ensures { λ r. ⌜ r ≡ skipAt (now (text .entry)) (from .at) (now (bytes .entry)) ⌝ }
+    ensures { λ r. ⌜ r ≡ skipAt (old text) (from .at) (old bytes) ⌝ }
 {
     let mut place = from.at;
     let mut i = 0;
@@ -33,7 +34,7 @@ pub fn skip(text: &[u8], from: Cursor, bytes: &[u8]) -> Next
 
 // A number between constant bytes, as in `(rounds 2)`.
 pub fn take_form(text: &[u8], from: Cursor, head: &[u8], tail: &[u8]) -> Number
-    ensures { λ r. ⌜ r ≡ formAt (now (text .entry)) (from .at) (now (head .entry)) (now (tail .entry)) ⌝ }
+    ensures { λ r. ⌜ r ≡ formAt (old text) (from .at) (old head) (old tail) ⌝ }
 {
     let Next::To(first) = skip(text, from, head) else {
         return Number::Missing;

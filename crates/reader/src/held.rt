@@ -3,6 +3,7 @@
 // proved by a walk of its code by hand. Callers use `take_number` and `byte_at`, whose plain parameters spare them that.
 ghost use mathlib.Core.Path.{_≡_};
 ghost use lib.ListN.{getD};
+ghost use Rattle.finite.specs.Moments.{old};
 ghost use Rattle.reader.specs.Number.{numberAt};
 use crate::number::Cursor;
 use crate::number::Number;
@@ -16,7 +17,7 @@ pub struct Reader<'a> {
 
 // The byte at a place of the text, or 0 past its end.
 fn byte_or_zero(text: &[u8], at: usize) -> u8
-    ensures { λ r. ⌜ r ≡ getD (now (text .entry)) at 0 ⌝ }
+    ensures { λ r. ⌜ r ≡ getD (old text) at 0 ⌝ }
 {
     if at < text.len() { text[at] } else { 0 }
 }
@@ -37,14 +38,14 @@ pub fn next_byte<'a>(reader: Reader<'a>) -> u8
 
 // The number that the text has from the cursor on.
 pub fn take_number(text: &[u8], from: Cursor) -> Number
-    ensures { λ r. ⌜ r ≡ numberAt (now (text .entry)) (from .at) ⌝ }
+    ensures { λ r. ⌜ r ≡ numberAt (old text) (from .at) ⌝ }
 {
     next_number(Reader { text, at: from.at })
 }
 
 // The byte at a place of the text, or 0 past its end.
 pub fn byte_at(text: &[u8], place: usize) -> u8
-    ensures { λ r. ⌜ r ≡ getD (now (text .entry)) place 0 ⌝ }
+    ensures { λ r. ⌜ r ≡ getD (old text) place 0 ⌝ }
 {
     next_byte(Reader { text, at: place })
 }

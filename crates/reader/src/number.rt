@@ -1,5 +1,6 @@
 // A number taken off the front of the text: decimal, without leading zeros, at most 65,535.
 ghost use mathlib.Core.Path.{_≡_};
+ghost use Rattle.finite.specs.Moments.{old};
 ghost use Rattle.reader.specs.Number.{digitAt, numberAt};
 
 // A position in the text.
@@ -15,7 +16,7 @@ pub enum Number {
 
 // The digit at a place of the text, or 10 where there is none.
 fn digit_at(text: &[u8], place: usize) -> u32
-    ensures { λ r. ⌜ r ≡ digitAt (now (text .entry)) place ⌝ }
+    ensures { λ r. ⌜ r ≡ digitAt (old text) place ⌝ }
 {
     if place < text.len() {
         let b = text[place];
@@ -31,7 +32,7 @@ fn digit_at(text: &[u8], place: usize) -> u32
 
 // The number that the text has from a place on. Reading stops before a value would overflow.
 pub fn number_at(text: &[u8], at: usize) -> Number
-    ensures { λ r. ⌜ r ≡ numberAt (now (text .entry)) at ⌝ }
+    ensures { λ r. ⌜ r ≡ numberAt (old text) at ⌝ }
 {
     let first = digit_at(text, at);
     if first >= 10 {

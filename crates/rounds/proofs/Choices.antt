@@ -16,6 +16,7 @@ use Rattle.anchored.specs.Followers.{followers, followerCount, best, choice}
 use Rattle.anchored.proofs.Choice.{best-i, best-free, best-greatest}
 use Rattle.shells.specs.Input.{graphOf, anchoredBy}
 use Rattle.step.specs.Record.{Right}
+use Rattle.step.specs.declared.record.Record.{Record}
 use Rattle.rounds.specs.Rounds.{bestBy, choiceBy}
 
 module _ (n : ℕ) (a fol : List ℕ) where
@@ -119,7 +120,13 @@ module _ (n : ℕ) (a fol : List ℕ) where
       refused w f = false-of (bestBy n a fol w) (not-T (bestBy n a fol w) f)
 
 -- the counts of a right record are the numbers of followers, so its choice is the defined one
-module _ (s l a lev lay comps fol : List ℕ) (right : Right s l a lev lay comps fol) where
+module _ {s l : List ℕ} {kept : Record} (right : Right s l kept) where
+  abbrev a : List ℕ
+  a = kept .anchored
+
+  abbrev fol : List ℕ
+  fol = kept .followers
+
   counted : (v : ℕ) → v < vertices s → T (not (anchoredBy a v)) → getD fol v 0 ≡ followers (graphOf s l) (anchoredBy a) v
   unfolding followerCount
   counted v h free = right .counts v h ∙ ap (λ b. cond b 65535 (followers (graphOf s l) (anchoredBy a) v)) (false-of (anchoredBy a v) free)

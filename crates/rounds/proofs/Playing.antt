@@ -17,8 +17,9 @@ use Rattle.anchored.specs.Session.{Plain, turn, rowOf, after}
 use Rattle.anchored.proofs.Choice.{choice-best, best-free}
 use Rattle.shells.specs.Input.{graphOf, anchoredBy}
 use Rattle.shells.specs.Arrays.{Holds}
-use Rattle.step.specs.Record.{Right, plainOf, rowAs}
-use Rattle.step.specs.Rows.{Stands, sessionOf}
+use Rattle.step.specs.Record.{Right, plainOf, Stands, Turned, Keeps, sessionOf}
+use Rattle.step.specs.declared.record.Record.{Record}
+use Rattle.step.specs.declared.record.Stepped.{Stepped}
 use Rattle.step.proofs.Steps.{stands-turn, refused-vertex}
 use Rattle.sheet.specs.Written.{Written}
 use Rattle.sheet.specs.Line.{Round, liftedBy, lineOf, sheetFrom, sheetOf}
@@ -31,47 +32,48 @@ use Rattle.rounds.proofs.Lines.{line-some, line-none}
 
 -- ---- one round
 
-module _ (s l a lev lay comps fol : List ℕ) (right : Right s l a lev lay comps fol) (x : ℕ) (found : x ≡ choiceBy (vertices s) a fol) where
+module _ {s l : List ℕ} {kept : Record} (right : Right s l kept) {x : ℕ} (found : x ≡ choiceBy (vertices s) (kept .anchored) (kept .followers)) where
+  abbrev G : Graph
+  G = graphOf s l
+
+  abbrev A : ℕ → Bool
+  A = anchoredBy (kept .anchored)
+
   -- the vertex found is the choice
-  pub chosen : x ≡ choice (graphOf s l) (anchoredBy a)
-  chosen = found ∙ choice-by s l a lev lay comps fol right
+  pub chosen : x ≡ choice G A
+  chosen = found ∙ choice-by right
 
   -- its byte is 0
-  pub chosen-free : x < vertices s → getD a x 0 ≡ 0
+  pub chosen-free : x < vertices s → getD (kept .anchored) x 0 ≡ 0
   chosen-free h =
-      let G = graphOf s l in
-      let A = anchoredBy a in
       let low : choice G A < vertices s = omega (arith, chosen) in
       let free : T (not (A x)) = subst (λ z. T (not (A z))) (sym chosen) (best-free G A (choice G A) (choice-best G A low)) in
-      let other = neqb (getD a x 0) 1 free in
-      omega (arith, right .sheet .admitted .bytes x h)
+      let other = neqb (getD (kept .anchored) x 0) 1 free in
+      omega (arith, right .admitted .bytes x h)
 
   -- it is a vertex unless it is n
   pub chosen-low : (x ≡ vertices s → ⊥) → x < vertices s
-  chosen-low other = omega (arith, found, first-le (bestBy (vertices s) a fol) (vertices s))
+  chosen-low other = omega (arith, found, first-le (bestBy (vertices s) (kept .anchored) (kept .followers)) (vertices s))
 
-  module _ (st : List ℕ) (number : ℕ) {o : List ℕ} {at : ℕ} {oNow : List ℕ} {end : ℕ} where
+  module _ (number : ℕ) {o : List ℕ} {at : ℕ} {oNow : List ℕ} {end : ℕ} where
     -- the line written is that of the round, for a vertex and for nobody
-    pub written-some : (marks : List ℕ) (p q redone : ℕ) → x < vertices s → Holds marks (vertices s) (mark (graphOf s l) (anchoredBy a) x)
-        → rowAs p q redone ≡ rowOf (graphOf s l) (plainOf a st) x
-        → Written o at (lineOf number (Vertex x) (liftedBy marks) (vertices s) redone) oNow end
-        → Written o at (shown (vertices s) number (roundOn (graphOf s l) (plainOf a st))) oNow end
-    written-some marks p q redone h holds row w =
-        subst (λ t. Written o at t oNow end) (line-some (graphOf s l) (plainOf a st) x chosen number redone marks h holds (ap (λ z. z .redone) row)) w
+    pub written-some : (marks : List ℕ) {left : Stepped} → x < vertices s → Holds marks (vertices s) (mark G A x) → Turned s l number x kept left
+        → Written o at (lineOf number (Vertex x) (liftedBy marks) (vertices s) (left .row .redone)) oNow end
+        → Written o at (shown (vertices s) number (roundOn G (plainOf kept))) oNow end
+    written-some marks {left} h holds turned w =
+        subst (λ t. Written o at t oNow end) (line-some G (plainOf kept) x chosen number (left .row .redone) marks h holds (ap (λ z. z .redone) (turned .row))) w
 
     pub written-none : (m : ℕ) → x ≡ vertices s → Written o at (lineOf number Nobody (liftedBy (replicate m 0)) (vertices s) 0) oNow end
-        → Written o at (shown (vertices s) number (roundOn (graphOf s l) (plainOf a st))) oNow end
-    written-none m z w = subst (λ t. Written o at t oNow end) (line-none (graphOf s l) (plainOf a st) x chosen number m z) w
+        → Written o at (shown (vertices s) number (roundOn G (plainOf kept))) oNow end
+    written-none m z w = subst (λ t. Written o at t oNow end) (line-none G (plainOf kept) x chosen number m z) w
 
-  module _ (st : List ℕ) (position : ℕ) where
-    -- so the record after it stands for the turn of the choice
-    pub stands-some : {aNow stNow : List ℕ} → Stands (vertices s) aNow stNow (turn (graphOf s l) position x (plainOf a st))
-        → Stands (vertices s) aNow stNow (turn (graphOf s l) position (choice (graphOf s l) (anchoredBy a)) (plainOf a st))
-    stands-some {aNow} {stNow} = subst (λ z. Stands (vertices s) aNow stNow (turn (graphOf s l) position z (plainOf a st))) chosen
+  -- so the record after it stands for the turn of the choice
+  pub keeps-some : {position : ℕ} {left : Stepped} → Turned s l position x kept left → Keeps s l (left .kept) (turn G position (choice G A) (plainOf kept))
+  keeps-some {position} {left} turned = subst (λ z. Keeps s l (left .kept) (turn G position z (plainOf kept))) chosen (record { right = turned .right; stands = turned .stands })
 
-    -- with nobody left to anchor the turn leaves the record as it was
-    pub stands-none : x ≡ vertices s → vertices s ≤ length st → Stands (vertices s) a st (turn (graphOf s l) position (choice (graphOf s l) (anchoredBy a)) (plainOf a st))
-    stands-none z long = stands-some (refused-vertex s l a st position x long (omega arith) .0)
+  -- with nobody left to anchor the turn leaves the record as it was
+  pub keeps-none : (position : ℕ) → x ≡ vertices s → Keeps s l kept (turn G position (choice G A) (plainOf kept))
+  keeps-none position z = keeps-some (refused-vertex right position x (omega arith))
 
 -- ---- round after round
 
@@ -103,41 +105,42 @@ module _ (s l given : List ℕ) where
   abbrev lines : ℕ → List Round
   lines i = roundsOf (graphOf s l) (anchoredBy given) i
 
-  -- the record is right and stands for the plain session after i rounds, whose lines are written
-  pub record Playing (out₀ out a lev lay comps fol st : List ℕ) (at i : ℕ) : Type 0 where
-    pub right : Right s l a lev lay comps fol
-    pub stands : Stands (vertices s) a st (before i)
+  -- the record is that of the plain session after i rounds, whose lines are written
+  pub record Playing (out₀ out : List ℕ) (kept : Record) (at i : ℕ) : Type 0 where
+    pub keeps : Keeps s l kept (before i)
     pub sheet : Written out₀ 0 (sheetOf (vertices s) (lines i)) out at
 
-  pub playing-none : (out a lev lay comps fol st : List ℕ) → Right s l a lev lay comps fol → Stands (vertices s) a st (sessionOf s l given [] 0) → Playing out out a lev lay comps fol st 0 0
-  unfolding after played roundsOf sheetFrom
-  playing-none out a lev lay comps fol st right stands = record { right = right; stands = stands; sheet = record { stored = refl; ends = refl } }
+pub playing-none : {s l given out : List ℕ} {kept : Record} → Keeps s l kept (sessionOf s l given [] 0) → Playing s l given out out kept 0 0
+unfolding after played roundsOf sheetFrom
+playing-none keeps = record { keeps = keeps; sheet = record { stored = refl; ends = refl } }
 
-  module _ (out₀ out a lev lay comps fol st : List ℕ) (at i : ℕ) (now : Playing out₀ out a lev lay comps fol st at i) where
-    pub playing-length : length out ≡ length out₀
-    playing-length = written-length (now .sheet)
+module _ {s l given out₀ out : List ℕ} {kept : Record} {at i : ℕ} (now : Playing s l given out₀ out kept at i) where
+  pub playing-length : length out ≡ length out₀
+  playing-length = written-length (now .sheet)
 
-    -- there is room for the next line
-    pub playing-room : (rounds : ℕ) → i < rounds → rounds * (48 + vertices s) ≤ length out₀ → at + (48 + vertices s) ≤ length out
-    playing-room rounds h room =
-        let each = 48 + vertices s in
-        let up : suc i * each ≤ rounds * each = mul-le-mul-right each (omega arith) in
-        let size : length (sheetOf (vertices s) (lines i)) ≡ i * each = sheet-length (vertices s) 1 (lines i) ∙ ap (λ k. k * each) (rounds-length (graphOf s l) (anchoredBy given) i) in
-        omega (arith, suc-mul i each, now .sheet .ends, playing-length)
+  -- there is room for the next line
+  pub playing-room : (rounds : ℕ) → i < rounds → rounds * (48 + vertices s) ≤ length out₀ → at + (48 + vertices s) ≤ length out
+  playing-room rounds h room =
+      let each = 48 + vertices s in
+      let up : suc i * each ≤ rounds * each = mul-le-mul-right each (omega arith) in
+      let size : length (sheetOf (vertices s) (lines s l given i)) ≡ i * each = sheet-length (vertices s) 1 (lines s l given i) ∙ ap (λ k. k * each) (rounds-length (graphOf s l) (anchoredBy given) i) in
+      omega (arith, suc-mul i each, now .sheet .ends, playing-length)
 
-    -- one round more
-    pub playing-more : (outNow aNow levNow layNow compsNow folNow stNow : List ℕ) (atNow : ℕ) → Right s l aNow levNow layNow compsNow folNow
-        → Stands (vertices s) aNow stNow (turn (graphOf s l) (i + 1) (choice (graphOf s l) (anchoredBy a)) (plainOf a st))
-        → Written out at (shown (vertices s) (i + 1) (roundOn (graphOf s l) (plainOf a st))) outNow atNow
-        → Playing out₀ outNow aNow levNow layNow compsNow folNow stNow atNow (i + 1)
-    playing-more outNow aNow levNow layNow compsNow folNow stNow atNow right stands line =
-        let n = vertices s in
-        let G = graphOf s l in
-        let A = anchoredBy given in
-        record {
-          right = right;
-          stands = subst (Stands n aNow stNow) (sym (played-more G A i)) (stands-turn s l a st (before i) (now .stands) (i + 1) (choice G (before i .anchors)) aNow stNow
-              (subst (λ B. Stands n aNow stNow (turn G (i + 1) (choice G B) (plainOf a st))) (now .stands .anchors) stands));
-          sheet = subst (λ rs. Written out₀ 0 (sheetOf n rs) outNow atNow) (sym (rounds-more G A i)) (sheet-turn n (lines i) (now .sheet) (roundOn G (before i)) (omega (arith, rounds-length G A i))
-              (subst (λ r. Written out at (shown n (i + 1) r) outNow atNow) (round-anchors G (plainOf a st) (before i) (now .stands .anchors)) line));
-        }
+  -- one round more
+  pub playing-more : {outNow : List ℕ} {next : Record} {atNow : ℕ} → Keeps s l next (turn (graphOf s l) (i + 1) (choice (graphOf s l) (anchoredBy (kept .anchored))) (plainOf kept))
+      → Written out at (shown (vertices s) (i + 1) (roundOn (graphOf s l) (plainOf kept))) outNow atNow
+      → Playing s l given out₀ outNow next atNow (i + 1)
+  playing-more {outNow} {next} {atNow} keeps line =
+      let n = vertices s in
+      let G = graphOf s l in
+      let A = anchoredBy given in
+      let same = now .keeps .stands .anchors in
+      record {
+        keeps = record {
+          right = keeps .right;
+          stands = subst (Stands n next) (sym (played-more G A i)) (stands-turn s l (now .keeps .stands) (i + 1) (choice G (before s l given i .anchors))
+              (subst (λ B. Stands n next (turn G (i + 1) (choice G B) (plainOf kept))) same (keeps .stands)));
+        };
+        sheet = subst (λ rs. Written out₀ 0 (sheetOf n rs) outNow atNow) (sym (rounds-more G A i)) (sheet-turn n (lines s l given i) (now .sheet) (roundOn G (before s l given i)) (omega (arith, rounds-length G A i))
+            (subst (λ r. Written out at (shown n (i + 1) r) outNow atNow) (round-anchors G (plainOf kept) (before s l given i) same) line));
+      }

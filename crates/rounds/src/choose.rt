@@ -4,6 +4,7 @@ ghost use mathlib.Core.Bool.{not, _&&_, _||_};
 ghost use Prim.Native.Nat.{_≤_, _<_};
 ghost use lib.ListN.{getD};
 ghost use lib.Dec.{ltb, eqb};
+ghost use Rattle.finite.specs.Moments.{old};
 ghost use Rattle.shells.specs.Input.{anchoredBy};
 ghost use Rattle.rounds.specs.Rounds.{choiceBy};
 
@@ -16,7 +17,7 @@ fn is_better(
     v: usize,
 ) -> bool
     requires { ⌜ (n ≤ 1024) × (chosen ≤ n) × (v < n) ⌝ }
-    ensures { λ r. ⌜ r ≡ not (anchoredBy (now (anchored .entry)) v) && (eqb chosen n || ltb (getD (now (followers .entry)) chosen 0) (getD (now (followers .entry)) v 0)) ⌝ }
+    ensures { λ r. ⌜ r ≡ not (anchoredBy (old anchored) v) && (eqb chosen n || ltb (getD (old followers) chosen 0) (getD (old followers) v 0)) ⌝ }
 {
     if anchored[v] == 1 {
         return false;
@@ -30,7 +31,7 @@ fn is_better(
 // The choice by the anchored bytes and follower counts of n vertices; n if all are anchored.
 pub fn choose(n: usize, anchored: &[u8; 1024], followers: &[u16; 1024]) -> usize
     requires { ⌜ n ≤ 1024 ⌝ }
-    ensures { λ r. ⌜ r ≡ choiceBy n (now (anchored .entry)) (now (followers .entry)) ⌝ }
+    ensures { λ r. ⌜ r ≡ choiceBy n (old anchored) (old followers) ⌝ }
 {
     let mut chosen = n;
     let mut v: usize = 0;

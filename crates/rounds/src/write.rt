@@ -2,6 +2,7 @@
 ghost use mathlib.Core.Path.{_≡_};
 ghost use Prim.Native.Nat.{_+_, _*_, _≤_};
 ghost use lib.ListN.{length};
+ghost use Rattle.finite.specs.Moments.{old, final};
 ghost use Rattle.table.specs.Table.{vertices};
 ghost use Rattle.shells.specs.Input.{graphOf, anchoredBy, Admitted};
 ghost use Rattle.sheet.specs.Line.{sheetOf};
@@ -19,14 +20,16 @@ pub fn write_rounds(
     requires { ⌜ Admitted (now starts) (now links) (now given) ⌝ }
     requires { ⌜ length (now given) ≡ vertices (now starts) ⌝ }
     requires { ⌜ rounds * (48 + vertices (now starts)) ≤ length (now out) ⌝ }
-    ensures { λ r. ⌜ Written (now (out .entry)) 0 (sheetOf (vertices (now (starts .entry))) (roundsOf (graphOf (now (starts .entry)) (now (links .entry))) (anchoredBy (now (given .entry))) rounds)) (now (out .exit)) r ⌝ }
+    ensures { λ r.
+        let sheet = sheetOf (vertices (old starts)) (roundsOf (graphOf (old starts) (old links)) (anchoredBy (old given)) rounds) in
+        ⌜ Written (old out) 0 sheet (final out) r ⌝ }
 {
     let mut kept = step::begin::begin(starts, links, given);
     let mut at: usize = 0;
     let mut i: u16 = 0;
     while i < rounds {
         let played = super::play::play(starts, links, kept, i + 1, out, at);
-        kept = played.record;
+        kept = played.kept;
         at = played.at;
         i += 1;
     }

@@ -17,40 +17,41 @@ use Rattle.anchored.specs.Followers.{followers, candidates, reached, mark}
 use Rattle.anchored.proofs.Support.{supports}
 use Rattle.shells.specs.Input.{graphOf, anchoredBy}
 use Rattle.shells.specs.Arrays.{Holds}
-use Rattle.candidates.specs.Reaching.{Sheet, Reached}
+use Rattle.shells.specs.Sheet.{Leveled}
+use Rattle.candidates.specs.Reaching.{Reached}
 use Rattle.candidates.proofs.Reaching.{queue-length}
 use Rattle.support.specs.Striking.{supportsOf, State, Settled}
 use Rattle.support.proofs.Remaining.{support-is, marks-are, counts-are}
 
-module _ (s l a levels layers : List ℕ) (h : Sheet s l a levels layers) (x : ℕ) where
+-- the queue is as long as there are candidates
+pub reached-is : {s l a : List ℕ} {x : ℕ} {marks queue : List ℕ} {tail : ℕ} → Reached s l a x marks queue tail → tail ≡ reached (graphOf s l) (anchoredBy a) x
+unfolding reached
+reached-is {s} {l} {a} {x} {queue = queue} {tail = tail} r =
+    let q = take tail queue in
+    let listed = count-listed (has (candidates (graphOf s l) (anchoredBy a) x)) (vertices s) q (r .queued .distinct)
+    (λ v i. (r .queued .within v i, subst T (r .all v) (member-i v q i)))
+    (λ v b t. member-e v q (subst T (sym (r .all v)) t)) in
+    omega (arith, queue-length (r .queued))
+
+module _ {s l a levels : List ℕ} (leveled : Leveled s l a levels) {x : ℕ} {marks queue : List ℕ} {tail : ℕ} (r : Reached s l a x marks queue tail)
+    {C : ℕ → Bool} (all : (v : ℕ) → C v ≡ member v (take tail queue))
+    {S : ℕ → ℕ} (counts : (v : ℕ) → In v (take tail queue) → S v ≡ count (supportsOf a levels (λ p. member p (take tail queue)) x v) (neighbors s l v))
+    {st : State} (k : Settled s l levels S C st) where
   abbrev G : Graph
   G = graphOf s l
 
   abbrev A : ℕ → Bool
   A = anchoredBy a
 
-  -- the queue is as long as there are candidates
-  pub reached-is : (marks queue : List ℕ) (tail : ℕ) → Reached s l a x marks queue tail → tail ≡ reached G A x
-  unfolding reached
-  reached-is marks queue tail r =
-      let q = take tail queue in
-      let listed = count-listed (has (candidates G A x)) (vertices s) q (r .queued .distinct)
-      (λ v i. (r .queued .within v i, subst T (r .all v) (member-i v q i)))
-      (λ v b t. member-e v q (subst T (sym (r .all v)) t)) in
-      omega (arith, queue-length (vertices s) marks queue tail (r .queued))
+  found-is : (v : ℕ) → C v ≡ has (candidates G A x) v
+  found-is v = all v ∙ r .all v
 
-  module _ (marks queue : List ℕ) (tail : ℕ) (r : Reached s l a x marks queue tail) (C : ℕ → Bool) (all : (v : ℕ) → C v ≡ member v (take tail queue))
-      (S : ℕ → ℕ) (counts : (v : ℕ) → In v (take tail queue) → S v ≡ count (supportsOf a levels (λ p. member p (take tail queue)) x v) (neighbors s l v))
-      (st : State) (k : Settled s l levels S C st) where
-    found-is : (v : ℕ) → C v ≡ has (candidates G A x) v
-    found-is v = all v ∙ r .all v
+  found-support : (v : ℕ) → T (C v) → S v ≡ count (supports G A x C v) (neighbors s l v)
+  found-support v t = counts v (member-e v (take tail queue) (subst T (all v) t)) ∙ support-is leveled x (λ p. member p (take tail queue)) C v (k .listed .small v t) (λ p. sym (all p))
 
-    found-support : (v : ℕ) → T (C v) → S v ≡ count (supports G A x C v) (neighbors s l v)
-    found-support v t = counts v (member-e v (take tail queue) (subst T (all v) t)) ∙ support-is s l a levels layers h x (λ p. member p (take tail queue)) C v (k .listed .small v t) (λ p. sym (all p))
+  -- the marks, and the counts
+  pub found-marks : Holds (st .marks) (vertices s) (mark G A x)
+  found-marks = marks-are leveled x found-is found-support k
 
-    -- the marks, and the counts
-    pub found-marks : Holds (st .marks) (vertices s) (mark G A x)
-    found-marks = marks-are s l a levels layers h x C found-is S found-support st k
-
-    pub found-counts : followers G A x + st .end ≡ tail
-    found-counts = counts-are s l a levels layers h x C found-is S found-support st k ∙ sym (reached-is marks queue tail r)
+  pub found-counts : followers G A x + st .end ≡ tail
+  found-counts = counts-are leveled x found-is found-support k ∙ sym (reached-is r)

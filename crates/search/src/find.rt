@@ -1,14 +1,14 @@
 // The follower search: candidates along upstair walks, then those of too little support struck out.
 ghost use mathlib.Core.Path.{_≡_};
-ghost use Prim.Native.Nat.{_≤_, _<_};
-ghost use lib.ListN.{length, getD};
+ghost use Prim.Native.Nat.{_<_};
+ghost use lib.ListN.{getD};
+ghost use Rattle.finite.specs.Moments.{old, final};
 ghost use Rattle.table.specs.Table.{vertices};
-ghost use Rattle.anchored.specs.Core.{level as levelOf};
-ghost use Rattle.anchored.specs.Core.{layer as layerOf};
 ghost use Rattle.anchored.specs.Followers.{mark as markOf};
 ghost use Rattle.anchored.specs.Followers.{followers as followersOf, reached as reachedOf};
-ghost use Rattle.shells.specs.Input.{graphOf, anchoredBy, Admitted};
+ghost use Rattle.shells.specs.Input.{graphOf, anchoredBy};
 ghost use Rattle.shells.specs.Arrays.{Holds};
+ghost use Rattle.shells.specs.Sheet.{Sheet};
 
 // How many the search lifts, and how many it reaches.
 pub struct Found {
@@ -26,16 +26,12 @@ pub fn search(
     x: usize,
     marks: &mut [u8; 1024],
 ) -> Found
-    requires { ⌜ Admitted (now starts) (now links) (now anchored) ⌝ }
-    requires { ⌜ vertices (now starts) ≤ length (now levels) ⌝ }
-    requires { ⌜ vertices (now starts) ≤ length (now layers) ⌝ }
-    requires { ⌜ Holds (now levels) (vertices (now starts)) (levelOf (graphOf (now starts) (now links)) (anchoredBy (now anchored))) ⌝ }
-    requires { ⌜ Holds (now layers) (vertices (now starts)) (layerOf (graphOf (now starts) (now links)) (anchoredBy (now anchored))) ⌝ }
+    requires { ⌜ Sheet (now starts) (now links) (now anchored) (now levels) (now layers) ⌝ }
     requires { ⌜ x < vertices (now starts) ⌝ }
     requires { ⌜ getD (now anchored) x 0 ≡ 0 ⌝ }
-    ensures marks { λ r. ⌜ Holds (now (marks .exit)) (vertices (now (starts .entry))) (markOf (graphOf (now (starts .entry)) (now (links .entry))) (anchoredBy (now (anchored .entry))) x) ⌝ }
-    ensures lifted { λ r. ⌜ r .lifted ≡ followersOf (graphOf (now (starts .entry)) (now (links .entry))) (anchoredBy (now (anchored .entry))) x ⌝ }
-    ensures reached { λ r. ⌜ r .reached ≡ reachedOf (graphOf (now (starts .entry)) (now (links .entry))) (anchoredBy (now (anchored .entry))) x ⌝ }
+    ensures marks { λ r. ⌜ Holds (final marks) (vertices (old starts)) (markOf (graphOf (old starts) (old links)) (anchoredBy (old anchored)) x) ⌝ }
+    ensures lifted { λ r. ⌜ r .lifted ≡ followersOf (graphOf (old starts) (old links)) (anchoredBy (old anchored)) x ⌝ }
+    ensures reached { λ r. ⌜ r .reached ≡ reachedOf (graphOf (old starts) (old links)) (anchoredBy (old anchored)) x ⌝ }
 {
     let mut queue = [0u16; 1024];
     let mut support = [0u16; 1024];
@@ -72,8 +68,6 @@ pub fn search(
         &mut struck,
         weak,
     );
-    Found {
-        lifted: reached - gone,
-        reached,
-    }
+    let lifted = reached - gone;
+    Found { lifted, reached }
 }

@@ -2,11 +2,13 @@
 ghost use mathlib.Core.Path.{_≡_};
 ghost use Prim.Native.Nat.{_<_};
 ghost use lib.ListN.{length, getD};
+ghost use Rattle.finite.specs.Moments.{old, final};
 ghost use Rattle.table.specs.Table.{vertices};
+ghost use Rattle.table.specs.Guard.{held};
 ghost use Rattle.anchored.specs.Followers.{followers as followersIn, reached as reachedIn};
 ghost use Rattle.shells.specs.Input.{graphOf, anchoredBy, Admitted};
 ghost use Rattle.level.specs.SheetCheck.{Accepted};
-ghost use Rattle.search.specs.Answers.{searchOf, followersOf, marksOf, marked};
+ghost use Rattle.search.specs.Answers.{searchOf, followersOf, marksOf};
 ghost use Rattle.search.specs.declared.operation.Searched.the-variants.{Found};
 
 // The answer of a search: how many follow and how many are candidates, or a refusal.
@@ -15,7 +17,7 @@ pub enum Searched {
     Refused(table::Refusal),
 }
 
-// The refusals of a search with `room` places for marks, or `Sound`.
+// The refusals of a search with `room` places for marks, or `Passed`.
 fn test_search(
     starts: &[u16],
     links: &[u16],
@@ -24,17 +26,17 @@ fn test_search(
     layers: &[u16],
     x: usize,
     room: usize,
-) -> table::Checked
-    ensures { λ r. ⌜ r ≡ searchOf (now (starts .entry)) (now (links .entry)) (now (anchored .entry)) (now (levels .entry)) (now (layers .entry)) x room ⌝ }
+) -> table::Guard
+    ensures { λ r. ⌜ r ≡ searchOf (old starts) (old links) (old anchored) (old levels) (old layers) x room ⌝ }
 {
     let tested = level::vertex::test_marking(starts, links, anchored, levels, layers, x, room);
     match tested {
-        table::Checked::Refused(refusal) => table::Checked::Refused(refusal),
-        table::Checked::Sound => {
+        table::Guard::Refused(refusal) => table::Guard::Refused(refusal),
+        table::Guard::Passed => {
             if anchored[x] == 1 {
                 return table::refused(16, x);
             }
-            table::Checked::Sound
+            table::Guard::Passed
         }
     }
 }
@@ -53,8 +55,11 @@ fn write_marks(
     requires { ⌜ Accepted (now starts) (now links) (now anchored) (now levels) (now layers) ⌝ }
     requires { ⌜ (x < vertices (now starts)) × (getD (now anchored) x 0 ≡ 0) ⌝ }
     requires { ⌜ length (now marks) ≡ vertices (now starts) ⌝ }
-    ensures answer { λ r. ⌜ r ≡ Found (followersIn (graphOf (now (starts .entry)) (now (links .entry))) (anchoredBy (now (anchored .entry))) x) (reachedIn (graphOf (now (starts .entry)) (now (links .entry))) (anchoredBy (now (anchored .entry))) x) ⌝ }
-    ensures marks { λ r. ⌜ now (marks .exit) ≡ marksOf (now (starts .entry)) (now (links .entry)) (now (anchored .entry)) x ⌝ }
+    ensures answer { λ r.
+        let G = graphOf (old starts) (old links) in
+        let A = anchoredBy (old anchored) in
+        ⌜ r ≡ Found (followersIn G A x) (reachedIn G A x) ⌝ }
+    ensures marks { λ r. ⌜ final marks ≡ marksOf (old starts) (old links) (old anchored) x ⌝ }
 {
     let mut mark = [0u8; 1024];
     let found = crate::find::search(starts, links, anchored, levels, layers, x, &mut mark);
@@ -72,12 +77,14 @@ pub fn followers(
     x: usize,
     marks: &mut [u8],
 ) -> Searched
-    ensures answer { λ r. ⌜ r ≡ followersOf (now (starts .entry)) (now (links .entry)) (now (anchored .entry)) (now (levels .entry)) (now (layers .entry)) x (length (now (marks .entry))) ⌝ }
-    ensures marks { λ r. ⌜ now (marks .exit) ≡ marked r (marksOf (now (starts .entry)) (now (links .entry)) (now (anchored .entry)) x) (now (marks .entry)) ⌝ }
+    ensures answer { λ r. ⌜ r ≡ followersOf (old starts) (old links) (old anchored) (old levels) (old layers) x (length (old marks)) ⌝ }
+    ensures marks { λ r.
+        let guard = searchOf (old starts) (old links) (old anchored) (old levels) (old layers) x (length (old marks)) in
+        ⌜ final marks ≡ held guard (marksOf (old starts) (old links) (old anchored) x) (old marks) ⌝ }
 {
     let tested = test_search(starts, links, anchored, levels, layers, x, marks.len());
     match tested {
-        table::Checked::Refused(refusal) => Searched::Refused(refusal),
-        table::Checked::Sound => write_marks(starts, links, anchored, levels, layers, x, marks),
+        table::Guard::Refused(refusal) => Searched::Refused(refusal),
+        table::Guard::Passed => write_marks(starts, links, anchored, levels, layers, x, marks),
     }
 }

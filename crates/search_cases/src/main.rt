@@ -6,6 +6,7 @@ use cases::print::text;
 use cases::read::bytes;
 use cases::read::field;
 use cases::read::numbers;
+use collapse::Collapsed;
 use libc::STDIN_FILENO;
 use search::Searched;
 
@@ -45,6 +46,13 @@ fn search(
     print_found(answer);
 }
 
+fn print_collapsed(answer: Collapsed) {
+    match answer {
+        Collapsed::Marked => cases::print::sound(b"", b""),
+        Collapsed::Refused(refusal) => cases::print::refusal(b"", b"", refusal),
+    }
+}
+
 fn collapse(
     name: &[u8],
     starts: &[u16],
@@ -57,7 +65,7 @@ fn collapse(
 ) {
     let answer = collapse::collapse(starts, links, anchored, levels, layers, x, marks);
     print_marks(name, b" falls", marks);
-    cases::print::answer(b"", b"", answer);
+    print_collapsed(answer);
 }
 
 fn call(

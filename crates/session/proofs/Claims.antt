@@ -11,8 +11,10 @@ use borrow.Author.Tests.{ltb-false}
 use Rattle.finite.specs.Count.{bit, tabulate, count, below}
 use Rattle.finite.proofs.Tests.{or-l, or-r, split, true-of, false-of, neqb}
 use Rattle.finite.proofs.Count.{bit-le, bit-one, bit-byte, length-tabulate, tabulate-at, tabulate-cong, tabulate-self, count-cong, in-below}
-use Rattle.table.specs.Table.{vertices, checkOf, refused}
-use Rattle.table.specs.declared.Checked.the-variants.{Sound}
+use Rattle.table.specs.Table.{vertices, checkOf}
+use Rattle.table.specs.Guard.{refused}
+use Rattle.table.specs.declared.Guard.the-variants.{Passed}
+use Rattle.table.proofs.Guards.{both-passed}
 use Rattle.table.proofs.Laws.{went-on}
 use Rattle.anchored.specs.Graph.{Graph, Simple}
 use Rattle.anchored.specs.Core.{level, layer}
@@ -24,18 +26,18 @@ use Rattle.anchored.proofs.Anchor.{free-adding}
 use Rattle.anchored.proofs.Session.{status-free, turn-accepted, turn-refused, row-accepted, row-refused, after-more, after-prefix, after-beyond, followers-marks, level-lifted}
 use Rattle.anchored.proofs.Step.{kept-followers}
 use Rattle.shells.specs.Input.{graphOf, anchoredBy, admitOf, Admitted}
-use Rattle.shells.proofs.Laws.{checked-simple, went-through, admitted, admits}
+use Rattle.shells.proofs.Laws.{checked-simple, admitted, admits}
 use Rattle.level.specs.SheetCheck.{Accepted}
 use Rattle.level.proofs.Laws.{accepts}
 use Rattle.level.proofs.Marking.{vertex-within, marking-vertex}
 use Rattle.search.specs.declared.operation.Searched.the-variants.{Found}
 use Rattle.search.proofs.Answers.{search-free, followers-found}
-use Rattle.step.specs.Rows.{sessionOf}
+use Rattle.step.specs.Record.{sessionOf}
 use Rattle.session.specs.Run.{Slices, sized, admitRun, runOf, rowAt, ended}
 use Rattle.session.specs.Claim.{upto, set, searched, marks, redone, shown, Fresh, Plainly, Accepts, Refuses, Claim}
 use Rattle.session.proofs.Serving.{admitted-bytes, run-lent}
 
-module _ (s l given requests : List ℕ) (accepted : admitOf s l given ≡ Sound) where
+module _ (s l given requests : List ℕ) (accepted : admitOf s l given ≡ Passed) where
   abbrev n : ℕ
   n = vertices s
 
@@ -68,9 +70,9 @@ module _ (s l given requests : List ℕ) (accepted : admitOf s l given ≡ Sound
   prefix : (i : ℕ) → i ≤ m → P i ≡ sessionOf s l given requests i
   prefix i h = rw (length-take-le i requests h) (after-prefix G (anchoredBy given) requests i i (omega arith))
 
-  table-sound : checkOf s l ≡ Sound
+  table-sound : checkOf s l ≡ Passed
   unfolding admitOf
-  table-sound = went-through (checkOf s l) _ accepted .0
+  table-sound = both-passed (checkOf s l) _ accepted .0
 
   given-admitted : Admitted s l given
   given-admitted = admitted s l given accepted
@@ -98,7 +100,7 @@ module _ (s l given requests : List ℕ) (accepted : admitOf s l given ≡ Sound
         ))
         (λ h. rw (tabulate-at (λ w. bit (A w)) n v (nleb→lt n v h)) (bit-one (A v))))
 
-    bytes-admitted : admitOf s l bytes ≡ Sound
+    bytes-admitted : admitOf s l bytes ≡ Passed
     bytes-admitted = admits s l bytes table-sound (length-tabulate (λ v. bit (A v)) n) record {
       table = given-admitted .table;
       long = omega (arith, length-tabulate (λ v. bit (A v)) n);
@@ -288,7 +290,7 @@ module _ (s l given requests : List ℕ) (accepted : admitOf s l given ≡ Sound
   start-stamps = refl
 
   module _ (few : m ≤ 4096) where
-    prefix-run : (i : ℕ) → i ≤ m → (lent : Slices) → T (sized n i lent) → runOf s l given (take i requests) lent ≡ Sound
+    prefix-run : (i : ℕ) → i ≤ m → (lent : Slices) → T (sized n i lent) → runOf s l given (take i requests) lent ≡ Passed
     prefix-run i h lent fits =
         let long = length-take-le i requests h in
         run-lent s l given (length (take i requests)) _ accepted true (omega arith) (rw long (true-of (sized n i lent) fits))
@@ -308,9 +310,9 @@ module _ (s l given requests : List ℕ) (accepted : admitOf s l given ≡ Sound
     }
 
 -- demand 3, of every call that is not refused as a whole
-pub session-claim : (s l given requests : List ℕ) (fits : Bool) → admitRun s l given (length requests) fits ≡ Sound → Claim s l given requests
+pub session-claim : (s l given requests : List ℕ) (fits : Bool) → admitRun s l given (length requests) fits ≡ Passed → Claim s l given requests
 unfolding admitRun
 session-claim s l given requests fits e =
-    let through = went-through (admitOf s l given) _ e in
-    let few = went-on (ltb 4096 (length requests)) 11 0 (cond fits Sound (refused 12 0)) (through .1) in
+    let through = both-passed (admitOf s l given) _ e in
+    let few = went-on (ltb 4096 (length requests)) 11 0 (cond fits Passed (refused 12 0)) (through .1) in
     claimed s l given requests (through .0) (ltb-false 4096 (length requests) (few .0))

@@ -1,31 +1,33 @@
 -- A session served request by request: what holds when i requests are done, and what a run that is not refused promises. Assumes nothing.
 use mathlib.Core.Path.{_≡_, refl, sym, ap, _∙_, subst}
-use mathlib.Core.Bool.{Bool, cond, _&&_}
+use mathlib.Core.Logic.{inl, inr}
+use mathlib.Core.Bool.{Bool, cond}
 use mathlib.Core.List.{List, [], _++_}
 use Prim.Native.Nat.{ℕ, _+_, _≤_, _<_}
 use lib.ListN.{length, drop, getD, set, length-set}
 use lib.Dec.{ltb, eqb}
 use borrow.Author.Tests.{lt-ltb, le-ltb, ltb-false, eqb-true, not-false}
 use Rattle.finite.specs.Count.{bit, tabulate}
+use Rattle.finite.specs.Search.{all}
 use Rattle.finite.proofs.Tests.{and-l, and-r}
 use Rattle.finite.proofs.Count.{bit-byte, fill-none, fill-more, fill-all, tabulate-cong}
-use Rattle.table.specs.Table.{vertices, checkOf, refused}
-use Rattle.table.specs.declared.Refusal.{Refusal}
-use Rattle.table.specs.declared.Checked.the-variants.{Sound, Refused}
+use Rattle.table.specs.Table.{vertices, checkOf}
+use Rattle.table.specs.Guard.{refused}
+use Rattle.table.specs.declared.Guard.the-variants.{Passed}
+use Rattle.table.proofs.Guards.{both-passed, cleared}
 use Rattle.table.proofs.Laws.{went-on}
-use Rattle.anchored.specs.Core.{level, layer}
-use Rattle.anchored.specs.Component.{component}
 use Rattle.anchored.specs.Followers.{followerCount}
-use Rattle.anchored.specs.Session.{Plain, after, turn, rowOf}
+use Rattle.anchored.specs.Session.{Plain, after}
 use Rattle.shells.specs.Input.{graphOf, admitOf}
 use Rattle.shells.specs.Arrays.{Holds}
-use Rattle.shells.proofs.Laws.{went-through, admitted}
-use Rattle.level.specs.Answers.{threeOf}
-use Rattle.level.proofs.Answers.{passed, three}
-use Rattle.step.specs.Record.{Right, plainOf, rowAs}
-use Rattle.step.specs.Rows.{Stands, sessionOf}
+use Rattle.shells.proofs.Laws.{admitted}
+use Rattle.level.proofs.Answers.{passed, each}
+use Rattle.stale.specs.Columns.{ColumnsOf}
+use Rattle.step.specs.Record.{rowAs, Turned, Keeps, sessionOf}
+use Rattle.step.specs.declared.record.Record.{Record}
+use Rattle.step.specs.declared.record.Stepped.{Stepped}
 use Rattle.step.proofs.Steps.{stands-row, stands-more}
-use Rattle.session.specs.Run.{Slices, sized, admitRun, runOf, Ready, rowAt}
+use Rattle.session.specs.Run.{Slices, records, numbers, sized, admitRun, runOf, Ready, rowAt}
 
 -- a slice of one number for each request has those of the first i, and after them what it had
 pub record Filled (f : ℕ → ℕ) (old new : List ℕ) (i : ℕ) : Type 0 where
@@ -46,40 +48,34 @@ pub filled-all : (f : ℕ → ℕ) (old new : List ℕ) (i m : ℕ) → Filled f
 filled-all f old new i m filled e long = filled .numbers ∙ fill-all f old i (e ∙ sym long) ∙ ap (tabulate f) e
 
 module _ (s l given requests : List ℕ) where
-  -- the record is right and stands for the plain session after i requests, whose numbers are written
-  pub record Serving (status₀ lifted₀ redone₀ status lifted redone a lev lay comps fol st : List ℕ) (i : ℕ) : Type 0 where
-    pub right : Right s l a lev lay comps fol
-    pub stands : Stands (vertices s) a st (sessionOf s l given requests i)
+  -- the record is that of the plain session after i requests, whose numbers are written
+  pub record Serving (status₀ lifted₀ redone₀ status lifted redone : List ℕ) (kept : Record) (i : ℕ) : Type 0 where
+    pub keeps : Keeps s l kept (sessionOf s l given requests i)
     pub statuses : Filled (λ k. rowAt s l given requests k .status) status₀ status i
     pub lifts : Filled (λ k. rowAt s l given requests k .lifted) lifted₀ lifted i
     pub redos : Filled (λ k. rowAt s l given requests k .redone) redone₀ redone i
 
-  -- at the start
-  pub serving-none : (status lifted redone a lev lay comps fol st : List ℕ) → Right s l a lev lay comps fol
-      → Stands (vertices s) a st (sessionOf s l given [] 0) → Serving status lifted redone status lifted redone a lev lay comps fol st 0
-  unfolding after
-  serving-none status lifted redone a lev lay comps fol st right stands = record {
-    right = right;
-    stands = stands;
-    statuses = filled-none _ status;
-    lifts = filled-none _ lifted;
-    redos = filled-none _ redone;
-  }
+-- at the start
+pub serving-none : {s l given requests status lifted redone : List ℕ} {kept : Record} → Keeps s l kept (sessionOf s l given [] 0) → Serving s l given requests status lifted redone status lifted redone kept 0
+unfolding after
+serving-none {status = status} {lifted = lifted} {redone = redone} keeps = record {
+  keeps = keeps;
+  statuses = filled-none _ status;
+  lifts = filled-none _ lifted;
+  redos = filled-none _ redone;
+}
 
+module _ {s l given requests status₀ lifted₀ redone₀ status lifted redone : List ℕ} {kept : Record} {i : ℕ} (now : Serving s l given requests status₀ lifted₀ redone₀ status lifted redone kept i) where
   -- one request more
-  pub serving-more : (status₀ lifted₀ redone₀ status lifted redone a lev lay comps fol st : List ℕ) (i : ℕ) → Serving status₀ lifted₀ redone₀ status lifted redone a lev lay comps fol st i
-      → i < length status₀ → i < length lifted₀ → i < length redone₀ → (aNow levNow layNow compsNow folNow stNow : List ℕ) (p q r : ℕ)
-      → Right s l aNow levNow layNow compsNow folNow → Stands (vertices s) aNow stNow (turn (graphOf s l) (i + 1) (getD requests i 0) (plainOf a st))
-      → rowAs p q r ≡ rowOf (graphOf s l) (plainOf a st) (getD requests i 0)
-      → Serving status₀ lifted₀ redone₀ (set status i p) (set lifted i q) (set redone i r) aNow levNow layNow compsNow folNow stNow (i + 1)
-  serving-more status₀ lifted₀ redone₀ status lifted redone a lev lay comps fol st i now hs hl hr aNow levNow layNow compsNow folNow stNow p q r right stands row =
-      let same : rowAs p q r ≡ rowAt s l given requests i = row ∙ stands-row s l a st (sessionOf s l given requests i) (now .stands) (getD requests i 0) in
+  pub serving-more : i < length status₀ → i < length lifted₀ → i < length redone₀ → {left : Stepped} → Turned s l (i + 1) (getD requests i 0) kept left
+      → Serving s l given requests status₀ lifted₀ redone₀ (set status i (left .row .status)) (set lifted i (left .row .lifted)) (set redone i (left .row .redone)) (left .kept) (i + 1)
+  serving-more hs hl hr {left} turned =
+      let same : rowAs (left .row) ≡ rowAt s l given requests i = turned .row ∙ stands-row s l (now .keeps .stands) (getD requests i 0) in
       record {
-        right = right;
-        stands = stands-more s l given requests i a st aNow stNow (now .stands) stands;
-        statuses = filled-more _ status₀ status i p (ap (λ z. z .status) same) hs (now .statuses);
-        lifts = filled-more _ lifted₀ lifted i q (ap (λ z. z .lifted) same) hl (now .lifts);
-        redos = filled-more _ redone₀ redone i r (ap (λ z. z .redone) same) hr (now .redos);
+        keeps = record { right = turned .right; stands = stands-more s l given requests i (now .keeps .stands) (turned .stands) };
+        statuses = filled-more _ status₀ status i (left .row .status) (ap (λ z. z .status) same) hs (now .statuses);
+        lifts = filled-more _ lifted₀ lifted i (left .row .lifted) (ap (λ z. z .lifted) same) hl (now .lifts);
+        redos = filled-more _ redone₀ redone i (left .row .redone) (ap (λ z. z .redone) same) hr (now .redos);
       }
 
 -- ---- the end
@@ -88,48 +84,37 @@ module _ (s l given requests : List ℕ) where
 pub copied-out : (f : ℕ → ℕ) (xs new : List ℕ) (k n : ℕ) → new ≡ tabulate (λ v. getD xs v 0) k → k ≡ n → Holds xs n f → new ≡ tabulate f n
 copied-out f xs new k n copied e holds = copied ∙ ap (tabulate (λ v. getD xs v 0)) e ∙ tabulate-cong (λ v. getD xs v 0) f n holds
 
-module _ (s l a lev lay comps fol st : List ℕ) (S : Plain) (right : Right s l a lev lay comps fol) (stands : Stands (vertices s) a st S) where
+module _ {s l : List ℕ} {kept : Record} {S : Plain} (keeps : Keeps s l kept S) where
   -- the record at the end, in the words of the plain session
-  pub end-anchored : Holds a (vertices s) (λ v. bit (S .anchors v))
-  end-anchored v h = subst (λ A. getD a v 0 ≡ bit (A v)) (stands .anchors) (sym (bit-byte (getD a v 0) (right .sheet .admitted .bytes v h)))
+  pub end-anchored : Holds (kept .anchored) (vertices s) (λ v. bit (S .anchors v))
+  end-anchored v h = subst (λ A. getD (kept .anchored) v 0 ≡ bit (A v)) (keeps .stands .anchors) (sym (bit-byte (getD (kept .anchored) v 0) (keeps .right .admitted .bytes v h)))
 
-  pub end-levels : Holds lev (vertices s) (level (graphOf s l) (S .anchors))
-  end-levels = subst (λ A. Holds lev (vertices s) (level (graphOf s l) A)) (stands .anchors) (right .sheet .levels)
+  pub end-columns : ColumnsOf (graphOf s l) (S .anchors) (kept .columns)
+  end-columns = subst (λ A. ColumnsOf (graphOf s l) A (kept .columns)) (keeps .stands .anchors) (keeps .right .columns)
 
-  pub end-layers : Holds lay (vertices s) (layer (graphOf s l) (S .anchors))
-  end-layers = subst (λ A. Holds lay (vertices s) (layer (graphOf s l) A)) (stands .anchors) (right .sheet .layers)
-
-  pub end-components : Holds comps (vertices s) (component (graphOf s l) (S .anchors))
-  end-components = subst (λ A. Holds comps (vertices s) (component (graphOf s l) A)) (stands .anchors) (right .sheet .components)
-
-  pub end-counts : Holds fol (vertices s) (followerCount (graphOf s l) (S .anchors))
-  end-counts = subst (λ A. Holds fol (vertices s) (followerCount (graphOf s l) A)) (stands .anchors) (right .counts)
+  pub end-counts : Holds (kept .followers) (vertices s) (followerCount (graphOf s l) (S .anchors))
+  end-counts = subst (λ A. Holds (kept .followers) (vertices s) (followerCount (graphOf s l) A)) (keeps .stands .anchors) (keeps .right .counts)
 
 -- ---- the answer
 
 -- admission tests that there are n bytes
-pub admitted-bytes : (s l a : List ℕ) → admitOf s l a ≡ Sound → length a ≡ vertices s
+pub admitted-bytes : (s l a : List ℕ) → admitOf s l a ≡ Passed → length a ≡ vertices s
 unfolding admitOf
 admitted-bytes s l a e =
-    let checked = went-through (checkOf s l) _ e in
+    let checked = both-passed (checkOf s l) _ e in
     let number = went-on _ _ _ _ (checked .1) in
     eqb-true (length a) (vertices s) (not-false (eqb (length a) (vertices s)) (number .0))
 
 module _ (s l a : List ℕ) (m : ℕ) (fits : Bool) where
-  -- refusals 1 to 10 are handed on
-  pub run-refused : {refusal : Refusal} → admitOf s l a ≡ Refused refusal → admitRun s l a m fits ≡ Refused refusal
-  unfolding admitRun
-  run-refused e = rw (admitRun, e)
-
-  -- then the number of requests decides, and then the lengths
-  module _ (admits : admitOf s l a ≡ Sound) where
+  -- of what is admitted the number of requests decides, and then the lengths
+  module _ (admits : admitOf s l a ≡ Passed) where
     pub run-many : 4096 < m → admitRun s l a m fits ≡ refused 11 0
     unfolding admitRun
-    run-many h = rw (admitRun, admits, lt-ltb 4096 m h)
+    run-many h = cleared _ _ admits ∙ rw (lt-ltb 4096 m h)
 
-    pub run-lent : (b : Bool) → m ≤ 4096 → fits ≡ b → admitRun s l a m fits ≡ cond b Sound (refused 12 0)
+    pub run-lent : (b : Bool) → m ≤ 4096 → fits ≡ b → admitRun s l a m fits ≡ cond b Passed (refused 12 0)
     unfolding admitRun
-    run-lent b h e = rw (admitRun, admits, le-ltb 4096 m h, e)
+    run-lent b h e = cleared _ _ admits ∙ rw (le-ltb 4096 m h, e)
 
 module _ (s l given requests : List ℕ) (x : Slices) where
   abbrev n : ℕ
@@ -138,32 +123,27 @@ module _ (s l given requests : List ℕ) (x : Slices) where
   abbrev m : ℕ
   m = length requests
 
-  abbrev six : Bool
-  six = threeOf n (length (x .anchored)) (length (x .levels)) (length (x .layers)) && threeOf n (length (x .components)) (length (x .followers)) (length (x .stamps))
-
   -- what is not refused is ready to be served
-  pub run-ready : runOf s l given requests x ≡ Sound → Ready s l given requests x
+  pub run-ready : runOf s l given requests x ≡ Passed → Ready s l given requests x
   unfolding admitRun
   run-ready e =
       let fits = sized n m x in
-      let through = went-through (admitOf s l given) (cond (ltb 4096 m) (refused 11 0) (cond fits Sound (refused 12 0))) e in
-      let few = went-on (ltb 4096 m) 11 0 (cond fits Sound (refused 12 0)) (through .1) in
-      let lent = passed fits _ Sound (few .1) .0 in
-      let records = and-l six (threeOf m (length (x .status)) (length (x .lifted)) (length (x .redone))) lent in
-      let first = three n _ _ _ (and-l (threeOf n (length (x .anchored)) (length (x .levels)) (length (x .layers))) (threeOf n (length (x .components)) (length (x .followers)) (length (x .stamps))) records) in
-      let second = three n _ _ _ (and-r (threeOf n (length (x .anchored)) (length (x .levels)) (length (x .layers))) (threeOf n (length (x .components)) (length (x .followers)) (length (x .stamps))) records) in
-      let third = three m _ _ _ (and-r six (threeOf m (length (x .status)) (length (x .lifted)) (length (x .redone))) lent) in
+      let through = both-passed (admitOf s l given) (cond (ltb 4096 m) (refused 11 0) (cond fits Passed (refused 12 0))) e in
+      let few = went-on (ltb 4096 m) 11 0 (cond fits Passed (refused 12 0)) (through .1) in
+      let lent = passed fits _ Passed (few .1) .0 in
+      let record-long = each n (records x) (and-l (all (eqb n) (records x)) (all (eqb m) (numbers x)) lent) in
+      let number-long = each m (numbers x) (and-r (all (eqb n) (records x)) (all (eqb m) (numbers x)) lent) in
       record {
         admitted = admitted s l given (through .0);
         bytes = admitted-bytes s l given (through .0);
         few = ltb-false 4096 m (few .0);
-        anchored-long = first .0;
-        levels-long = first .1;
-        layers-long = first .2;
-        components-long = second .0;
-        followers-long = second .1;
-        stamps-long = second .2;
-        status-long = third .0;
-        lifted-long = third .1;
-        redone-long = third .2;
+        anchored-long = record-long _ (inl refl);
+        levels-long = record-long _ (inr (inl refl));
+        layers-long = record-long _ (inr (inr (inl refl)));
+        components-long = record-long _ (inr (inr (inr (inl refl))));
+        followers-long = record-long _ (inr (inr (inr (inr (inl refl)))));
+        stamps-long = record-long _ (inr (inr (inr (inr (inr (inl refl))))));
+        status-long = number-long _ (inl refl);
+        lifted-long = number-long _ (inr (inl refl));
+        redone-long = number-long _ (inr (inr (inl refl)));
       }

@@ -6,8 +6,9 @@ use Rattle.finite.specs.Count.{tabulate, below, count}
 use Rattle.finite.specs.Search.{any, all, firstFrom, first, largest, ascending}
 use Rattle.finite.specs.Sets.{keep, having, rounds, grow}
 use Rattle.finite.specs.Pairs.{pairLe}
-use Rattle.table.specs.Table.{neighbors, badStart, beyond, looped, unsorted, unreturned, checkOf, refused}
-use Rattle.table.specs.declared.Checked.the-variants.{Sound}
+use Rattle.table.specs.Table.{neighbors, badStart, beyond, looped, unsorted, unreturned, checkOf}
+use Rattle.table.specs.Guard.{refused, answer}
+use Rattle.table.specs.declared.Guard.the-variants.{Passed}
 use Rattle.anchored.specs.Core.{batch, core, level, shell, layer, greater, higher}
 use Rattle.anchored.specs.Component.{joins, around, component, together}
 use Rattle.anchored.specs.Followers.{follows, followers, followerCount, firstStep, onward, candidates, reached, mark}
@@ -67,9 +68,9 @@ pub cases :
     × (rows (table (0 ∷ 3 ∷ 6 ∷ 9 ∷ 12 ∷ []) (1 ∷ 2 ∷ 3 ∷ 0 ∷ 2 ∷ 3 ∷ 0 ∷ 1 ∷ 3 ∷ 0 ∷ 1 ∷ 2 ∷ [])) none ≡ (3 ∷ 3 ∷ 3 ∷ 3 ∷ []) ∷ (1 ∷ 1 ∷ 1 ∷ 1 ∷ []) ∷ (0 ∷ 0 ∷ 0 ∷ 0 ∷ []) ∷ (0 ∷ 0 ∷ 0 ∷ 0 ∷ []) ∷ [])
     -- I, and the call is not refused
     × (session chain none (0 ∷ 0 ∷ 3 ∷ 9 ∷ []) ≡ (0 ∷ 16 ∷ 0 ∷ 15 ∷ []) ∷ (0 ∷ 0 ∷ 2 ∷ 0 ∷ []) ∷ (2 ∷ 0 ∷ 1 ∷ 0 ∷ []) ∷ (1 ∷ 0 ∷ 3 ∷ 3 ∷ []) ∷ [])
-    × (runOf (chain .starts) (chain .links) none (0 ∷ 0 ∷ 3 ∷ 9 ∷ []) (ended (chain .starts) (chain .links) none (0 ∷ 0 ∷ 3 ∷ 9 ∷ [])) ≡ Sound)
+    × (runOf (chain .starts) (chain .links) none (0 ∷ 0 ∷ 3 ∷ 9 ∷ []) (ended (chain .starts) (chain .links) none (0 ∷ 0 ∷ 3 ∷ 9 ∷ [])) ≡ Passed)
     -- J, and the defined sheet
     × (checkSheetOf (chain .starts) (chain .links) none (1 ∷ 1 ∷ 1 ∷ 1 ∷ []) (1 ∷ 2 ∷ 3 ∷ 1 ∷ []) ≡ refused 21 2)
-    × (checkSheetOf (chain .starts) (chain .links) none (1 ∷ 1 ∷ 1 ∷ 1 ∷ []) (1 ∷ 2 ∷ 2 ∷ 1 ∷ []) ≡ Sound)
-unfolding tabulate below count any all firstFrom first largest ascending keep having rounds grow pairLe neighbors badStart beyond looped unsorted unreturned checkOf batch core level shell layer greater higher joins around component together follows followers followerCount firstStep onward candidates reached mark misplaced tooHigh tooLow tooLate above undisturbed seesDisturbed seesNew recomputed statusOf rowOf turn after admitOf sheetOf checkSheetOf vertexOf markingOf searchOf followersOf admitRun
+    × (checkSheetOf (chain .starts) (chain .links) none (1 ∷ 1 ∷ 1 ∷ 1 ∷ []) (1 ∷ 2 ∷ 2 ∷ 1 ∷ []) ≡ Passed)
+unfolding answer tabulate below count any all firstFrom first largest ascending keep having rounds grow pairLe neighbors badStart beyond looped unsorted unreturned checkOf batch core level shell layer greater higher joins around component together follows followers followerCount firstStep onward candidates reached mark misplaced tooHigh tooLow tooLate above undisturbed seesDisturbed seesNew recomputed statusOf rowOf turn after admitOf sheetOf checkSheetOf vertexOf markingOf searchOf followersOf admitRun
 cases = (refl, refl, refl, refl, refl, refl, refl, refl, refl, refl, refl, refl, refl)

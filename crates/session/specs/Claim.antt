@@ -7,7 +7,7 @@ use lib.ListN.{length, take, getD}
 use lib.Dec.{T, eqb}
 use Rattle.finite.specs.Count.{bit, tabulate, count, below}
 use Rattle.table.specs.Table.{vertices}
-use Rattle.table.specs.declared.Checked.the-variants.{Sound}
+use Rattle.table.specs.declared.Guard.the-variants.{Passed}
 use Rattle.anchored.specs.Graph.{Graph}
 use Rattle.anchored.specs.Core.{level, layer}
 use Rattle.anchored.specs.Component.{component}
@@ -18,8 +18,7 @@ use Rattle.shells.specs.Input.{graphOf, anchoredBy, admitOf}
 use Rattle.search.specs.Answers.{followersOf, marksOf}
 use Rattle.search.specs.declared.operation.Searched.{Searched}
 use Rattle.search.specs.declared.operation.Searched.the-variants.{Found}
-use Rattle.step.specs.Record.{rowAs}
-use Rattle.step.specs.Rows.{sessionOf}
+use Rattle.step.specs.Record.{sessionOf}
 use Rattle.session.specs.Run.{Slices, sized, runOf, rowAt, ended}
 
 module _ (s l given requests : List ℕ) where
@@ -50,11 +49,11 @@ module _ (s l given requests : List ℕ) where
 
   -- the three numbers that the call leaves for request i
   abbrev pub shown : ℕ → Row
-  shown i = let end = ended s l given requests in rowAs (getD (end .status) i 0) (getD (end .lifted) i 0) (getD (end .redone) i 0)
+  shown i = let end = ended s l given requests in record { status = getD (end .status) i 0; lifted = getD (end .lifted) i 0; redone = getD (end .redone) i 0 }
 
   -- the record after i requests is the one worked out afresh from its bytes
   pub record Fresh (i : ℕ) : Type 0 where
-    pub admitted : admitOf s l (upto i .anchored) ≡ Sound
+    pub admitted : admitOf s l (upto i .anchored) ≡ Passed
     pub levels : upto i .levels ≡ tabulate (level G (set i)) n
     pub layers : upto i .layers ≡ tabulate (layer G (set i)) n
     pub components : upto i .components ≡ tabulate (component G (set i)) n
@@ -97,7 +96,7 @@ module _ (s l given requests : List ℕ) where
   -- the claim
   pub record Claim : Type 0 where
     -- the call with the first i requests alone, and slices of their lengths, is not refused
-    pub calls : (i : ℕ) → i ≤ length requests → (lent : Slices) → T (sized n i lent) → runOf s l given (take i requests) lent ≡ Sound
+    pub calls : (i : ℕ) → i ≤ length requests → (lent : Slices) → T (sized n i lent) → runOf s l given (take i requests) lent ≡ Passed
     -- with all requests it is this call
     pub end : upto (length requests) ≡ ended s l given requests
     -- at the start the bytes are the given ones, and every stamp is 0

@@ -1,21 +1,22 @@
--- The session over a list of requests: its answer, and what its lent slices hold afterwards.
+-- The session over a list of requests: what it refuses, and what its lent slices hold afterwards.
 use mathlib.Core.Path.{_≡_}
 use mathlib.Core.Bool.{Bool, cond, _&&_}
-use mathlib.Core.List.{List}
+use mathlib.Core.List.{List, [], _∷_}
 use Prim.Native.Nat.{ℕ, _≤_}
 use lib.ListN.{length, getD}
-use lib.Dec.{ltb}
+use lib.Dec.{ltb, eqb}
 use Rattle.finite.specs.Count.{bit, tabulate}
-use Rattle.table.specs.Table.{vertices, refused}
-use Rattle.table.specs.declared.Checked.{Checked}
-use Rattle.table.specs.declared.Checked.the-variants.{Sound, Refused}
+use Rattle.finite.specs.Search.{all}
+use Rattle.table.specs.Table.{vertices}
+use Rattle.table.specs.Guard.{refused, past}
+use Rattle.table.specs.declared.Guard.{Guard}
+use Rattle.table.specs.declared.Guard.the-variants.{Passed}
 use Rattle.anchored.specs.Core.{level, layer}
 use Rattle.anchored.specs.Component.{component}
 use Rattle.anchored.specs.Followers.{followerCount}
 use Rattle.anchored.specs.Session.{Row, rowOf}
 use Rattle.shells.specs.Input.{graphOf, admitOf, Admitted}
-use Rattle.level.specs.Answers.{threeOf}
-use Rattle.step.specs.Rows.{sessionOf}
+use Rattle.step.specs.Record.{sessionOf}
 
 -- the lent slices: the record, and the three numbers of each request
 pub record Slices : Type 0 where
@@ -32,25 +33,26 @@ pub record Slices : Type 0 where
 abbrev pub slices : List ℕ → List ℕ → List ℕ → List ℕ → List ℕ → List ℕ → List ℕ → List ℕ → List ℕ → Slices
 slices a k l c f t s u r = record { anchored = a; levels = k; layers = l; components = c; followers = f; stamps = t; status = s; lifted = u; redone = r }
 
--- six of n places, three of m
+-- the lengths of the record's slices, and of those with a number for each request
+abbrev pub records : Slices → List ℕ
+records x = length (x .anchored) ∷ length (x .levels) ∷ length (x .layers) ∷ length (x .components) ∷ length (x .followers) ∷ length (x .stamps) ∷ []
+
+abbrev pub numbers : Slices → List ℕ
+numbers x = length (x .status) ∷ length (x .lifted) ∷ length (x .redone) ∷ []
+
+-- these of n places, those of m
 abbrev pub sized : ℕ → ℕ → Slices → Bool
-sized n m x =
-    threeOf n (length (x .anchored)) (length (x .levels)) (length (x .layers))
-    && threeOf n (length (x .components)) (length (x .followers)) (length (x .stamps))
-    && threeOf m (length (x .status)) (length (x .lifted)) (length (x .redone))
+sized n m x = all (eqb n) (records x) && all (eqb m) (numbers x)
 
 -- 1 to 10, then 11 for more than 4,096 requests, then 12 for a slice that is not of its length
-unfoldable pub admitRun : List ℕ → List ℕ → List ℕ → ℕ → Bool → Checked
-admitRun s l a m fits = elim (admitOf s l a) [
-  | Sound ↦ cond (ltb 4096 m) (refused 11 0) (cond fits Sound (refused 12 0))
-  | Refused x ↦ Refused x
-]
+unfoldable pub admitRun : List ℕ → List ℕ → List ℕ → ℕ → Bool → Guard
+admitRun s l a m fits = past (admitOf s l a) (cond (ltb 4096 m) (refused 11 0) (cond fits Passed (refused 12 0)))
 
--- the answer to a call with these slices
-abbrev pub runOf : List ℕ → List ℕ → List ℕ → List ℕ → Slices → Checked
+-- what a call with these slices refuses
+abbrev pub runOf : List ℕ → List ℕ → List ℕ → List ℕ → Slices → Guard
 runOf s l given requests x = admitRun s l given (length requests) (sized (vertices s) (length requests) x)
 
--- what an answer that refuses nothing promises
+-- what is promised where nothing is refused
 pub record Ready (s l given requests : List ℕ) (x : Slices) : Type 0 where
   pub admitted : Admitted s l given
   pub bytes : length given ≡ vertices s
@@ -83,8 +85,3 @@ ended s l given requests =
     (tabulate (λ i. rowAt s l given requests i .status) (length requests))
     (tabulate (λ i. rowAt s l given requests i .lifted) (length requests))
     (tabulate (λ i. rowAt s l given requests i .redone) (length requests))
-
--- a call that is not refused leaves the new contents, a refused one the old
-abbrev pub left : Checked → Slices → Slices → Slices
-left Sound new old = new
-left (Refused x) new old = old

@@ -3,18 +3,20 @@ ghost use mathlib.Core.Path.{_≡_};
 ghost use Prim.Native.Nat.{_≤_};
 ghost use lib.ListN.{length, getD};
 ghost use Rattle.finite.specs.Count.{tabulate};
+ghost use Rattle.finite.specs.Moments.{old, final};
 use step::record::Record;
 
 // Copies the sheet of a record out.
 pub fn copy_sheet(kept: Record, levels: &mut [u16], layers: &mut [u16], components: &mut [u16])
     requires { ⌜ (length (now levels) ≤ 1024) × (length (now layers) ≤ 1024) × (length (now components) ≤ 1024) ⌝ }
-    ensures levels { λ _. ⌜ now (levels .exit) ≡ tabulate (λ v. getD (kept .level) v 0) (length (now (levels .entry))) ⌝ }
-    ensures layers { λ _. ⌜ now (layers .exit) ≡ tabulate (λ v. getD (kept .layer) v 0) (length (now (layers .entry))) ⌝ }
-    ensures components { λ _. ⌜ now (components .exit) ≡ tabulate (λ v. getD (kept .component) v 0) (length (now (components .entry))) ⌝ }
+    ensures levels { λ _. ⌜ final levels ≡ tabulate (λ v. getD (kept .columns .level) v 0) (length (old levels)) ⌝ }
+    ensures layers { λ _. ⌜ final layers ≡ tabulate (λ v. getD (kept .columns .layer) v 0) (length (old layers)) ⌝ }
+    ensures components { λ _. ⌜ final components ≡ tabulate (λ v. getD (kept .columns .component) v 0) (length (old components)) ⌝ }
 {
-    let level = kept.level;
-    let layer = kept.layer;
-    let component = kept.component;
+    let columns = kept.columns;
+    let level = columns.level;
+    let layer = columns.layer;
+    let component = columns.component;
     level::lent::copy(&level, levels);
     level::lent::copy(&layer, layers);
     level::lent::copy(&component, components);
@@ -23,9 +25,9 @@ pub fn copy_sheet(kept: Record, levels: &mut [u16], layers: &mut [u16], componen
 // Copies its anchored bytes, follower counts and stamps out.
 pub fn copy_rows(kept: Record, anchored: &mut [u8], followers: &mut [u16], stamps: &mut [u16])
     requires { ⌜ (length (now anchored) ≤ 1024) × (length (now followers) ≤ 1024) × (length (now stamps) ≤ 1024) ⌝ }
-    ensures anchored { λ _. ⌜ now (anchored .exit) ≡ tabulate (λ v. getD (kept .anchored) v 0) (length (now (anchored .entry))) ⌝ }
-    ensures followers { λ _. ⌜ now (followers .exit) ≡ tabulate (λ v. getD (kept .followers) v 0) (length (now (followers .entry))) ⌝ }
-    ensures stamps { λ _. ⌜ now (stamps .exit) ≡ tabulate (λ v. getD (kept .stamp) v 0) (length (now (stamps .entry))) ⌝ }
+    ensures anchored { λ _. ⌜ final anchored ≡ tabulate (λ v. getD (kept .anchored) v 0) (length (old anchored)) ⌝ }
+    ensures followers { λ _. ⌜ final followers ≡ tabulate (λ v. getD (kept .followers) v 0) (length (old followers)) ⌝ }
+    ensures stamps { λ _. ⌜ final stamps ≡ tabulate (λ v. getD (kept .stamp) v 0) (length (old stamps)) ⌝ }
 {
     let bytes = kept.anchored;
     let counts = kept.followers;

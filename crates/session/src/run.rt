@@ -3,16 +3,24 @@ ghost use mathlib.Core.Path.{_≡_};
 ghost use mathlib.Core.Bool.{_&&_};
 ghost use Prim.Native.Nat.{_≤_};
 ghost use lib.ListN.{length};
+ghost use lib.Dec.{eqb};
 ghost use Rattle.finite.specs.Count.{tabulate};
+ghost use Rattle.finite.specs.Search.{all};
+ghost use Rattle.finite.specs.Moments.{old, final};
 ghost use Rattle.table.specs.Table.{vertices};
-ghost use Rattle.table.specs.declared.Checked.the-variants.{Sound};
+ghost use Rattle.table.specs.Guard.{answer, held};
 ghost use Rattle.shells.specs.Input.{Admitted};
-ghost use Rattle.level.specs.Answers.{threeOf};
-ghost use Rattle.step.specs.Record.{Right};
-ghost use Rattle.step.specs.Rows.{Stands, sessionOf};
-ghost use Rattle.session.specs.Run.{slices, admitRun, runOf, Ready, rowAt, ended, left};
+ghost use Rattle.step.specs.Record.{Keeps, sessionOf};
+ghost use Rattle.session.specs.Run.{slices, admitRun, runOf, Ready, rowAt, ended};
 ghost use Rattle.session.specs.Claim.{Claim};
+ghost use Rattle.session.specs.declared.run.Ran.the-variants.{Served, Refused};
 use step::record::Record;
+
+// The answer of a session: its list is served, or a refusal.
+pub enum Ran {
+    Served,
+    Refused(table::Refusal),
+}
 
 // The record after all requests, and the three numbers of each.
 fn serve(
@@ -30,17 +38,16 @@ fn serve(
     requires { ⌜ length (now status) ≡ length (now requests) ⌝ }
     requires { ⌜ length (now lifted) ≡ length (now requests) ⌝ }
     requires { ⌜ length (now redone) ≡ length (now requests) ⌝ }
-    ensures right { λ r. ⌜ Right (now (starts .entry)) (now (links .entry)) (r .anchored) (r .level) (r .layer) (r .component) (r .followers) ⌝ }
-    ensures stands { λ r. ⌜ Stands (vertices (now (starts .entry))) (r .anchored) (r .stamp) (sessionOf (now (starts .entry)) (now (links .entry)) (now (given .entry)) (now (requests .entry)) (length (now (requests .entry)))) ⌝ }
-    ensures status { λ _. ⌜ now (status .exit) ≡ tabulate (λ i. rowAt (now (starts .entry)) (now (links .entry)) (now (given .entry)) (now (requests .entry)) i .status) (length (now (requests .entry))) ⌝ }
-    ensures lifted { λ _. ⌜ now (lifted .exit) ≡ tabulate (λ i. rowAt (now (starts .entry)) (now (links .entry)) (now (given .entry)) (now (requests .entry)) i .lifted) (length (now (requests .entry))) ⌝ }
-    ensures redone { λ _. ⌜ now (redone .exit) ≡ tabulate (λ i. rowAt (now (starts .entry)) (now (links .entry)) (now (given .entry)) (now (requests .entry)) i .redone) (length (now (requests .entry))) ⌝ }
+    ensures kept { λ r. ⌜ Keeps (old starts) (old links) r (sessionOf (old starts) (old links) (old given) (old requests) (length (old requests))) ⌝ }
+    ensures status { λ _. ⌜ final status ≡ tabulate (λ i. rowAt (old starts) (old links) (old given) (old requests) i .status) (length (old requests)) ⌝ }
+    ensures lifted { λ _. ⌜ final lifted ≡ tabulate (λ i. rowAt (old starts) (old links) (old given) (old requests) i .lifted) (length (old requests)) ⌝ }
+    ensures redone { λ _. ⌜ final redone ≡ tabulate (λ i. rowAt (old starts) (old links) (old given) (old requests) i .redone) (length (old requests)) ⌝ }
 {
     let mut kept = step::begin::begin(starts, links, given);
     let mut i: usize = 0;
     while i < requests.len() {
         let stepped = step::step::step(starts, links, kept, requests[i] as usize, i as u16 + 1);
-        kept = stepped.record;
+        kept = stepped.kept;
         let row = stepped.row;
         status[i] = row.status;
         lifted[i] = row.lifted;
@@ -66,48 +73,42 @@ fn write(
     lifted: &mut [u16],
     redone: &mut [u16],
 )
-    requires { ⌜ Ready (now starts) (now links) (now given) (now requests) (slices (now anchored) (now levels) (now layers) (now components) (now followers) (now stamps) (now status) (now lifted) (now redone)) ⌝ }
-    ensures { λ _. ⌜ slices (now (anchored .exit)) (now (levels .exit)) (now (layers .exit)) (now (components .exit)) (now (followers .exit)) (now (stamps .exit)) (now (status .exit)) (now (lifted .exit)) (now (redone .exit)) ≡ ended (now (starts .entry)) (now (links .entry)) (now (given .entry)) (now (requests .entry)) ⌝ }
+    requires { let lent = slices (now anchored) (now levels) (now layers) (now components) (now followers) (now stamps) (now status) (now lifted) (now redone) in
+        ⌜ Ready (now starts) (now links) (now given) (now requests) lent ⌝ }
+    ensures { λ _.
+        let after = slices (final anchored) (final levels) (final layers) (final components) (final followers) (final stamps) (final status) (final lifted) (final redone) in
+        ⌜ after ≡ ended (old starts) (old links) (old given) (old requests) ⌝ }
 {
     let kept = serve(starts, links, given, requests, status, lifted, redone);
     super::lent::copy_sheet(kept, levels, layers, components);
     super::lent::copy_rows(kept, anchored, followers, stamps);
 }
 
-// Refusals 1 to 12, or `Sound`: `count` is the number of requests, the others are the lengths of the lent slices.
+// Refusals 1 to 12, or `Passed`: `records` and `numbers` are the lengths of the lent slices, to be n and `count`, the number of requests.
 fn admit(
     starts: &[u16],
     links: &[u16],
     given: &[u8],
     count: usize,
-    anchored: usize,
-    levels: usize,
-    layers: usize,
-    components: usize,
-    followers: usize,
-    stamps: usize,
-    status: usize,
-    lifted: usize,
-    redone: usize,
-) -> table::Checked
-    ensures { λ r. ⌜ r ≡ admitRun (now (starts .entry)) (now (links .entry)) (now (given .entry)) count (threeOf (vertices (now (starts .entry))) anchored levels layers && threeOf (vertices (now (starts .entry))) components followers stamps && threeOf count status lifted redone) ⌝ }
+    records: &[usize],
+    numbers: &[usize],
+) -> table::Guard
+    ensures { λ r.
+        let fits = all (eqb (vertices (old starts))) (old records) && all (eqb count) (old numbers) in
+        ⌜ r ≡ admitRun (old starts) (old links) (old given) count fits ⌝ }
 {
     let admitted = shells::input::admit(starts, links, given);
     match admitted {
-        table::Checked::Refused(refusal) => table::Checked::Refused(refusal),
-        table::Checked::Sound => {
-            let n = starts.len() - 1;
+        table::Guard::Refused(refusal) => table::Guard::Refused(refusal),
+        table::Guard::Passed => {
             if 4096 < count {
                 return table::refused(11, 0);
             }
-            if !level::lent::are_of(n, anchored, levels, layers) {
+            if !level::lent::all_are(records, starts.len() - 1) {
                 return table::refused(12, 0);
             }
-            if !level::lent::are_of(n, components, followers, stamps) {
-                return table::refused(12, 0);
-            }
-            if level::lent::are_of(count, status, lifted, redone) {
-                return table::Checked::Sound;
+            if level::lent::all_are(numbers, count) {
+                return table::Guard::Passed;
             }
             table::refused(12, 0)
         }
@@ -130,29 +131,27 @@ pub fn run(
     status: &mut [u16],
     lifted: &mut [u16],
     redone: &mut [u16],
-) -> table::Checked
-    ensures answer { λ r. ⌜ r ≡ runOf (now (starts .entry)) (now (links .entry)) (now (given .entry)) (now (requests .entry)) (slices (now (anchored .entry)) (now (levels .entry)) (now (layers .entry)) (now (components .entry)) (now (followers .entry)) (now (stamps .entry)) (now (status .entry)) (now (lifted .entry)) (now (redone .entry))) ⌝ }
-    ensures slices { λ r. ⌜ slices (now (anchored .exit)) (now (levels .exit)) (now (layers .exit)) (now (components .exit)) (now (followers .exit)) (now (stamps .exit)) (now (status .exit)) (now (lifted .exit)) (now (redone .exit)) ≡ left r (ended (now (starts .entry)) (now (links .entry)) (now (given .entry)) (now (requests .entry))) (slices (now (anchored .entry)) (now (levels .entry)) (now (layers .entry)) (now (components .entry)) (now (followers .entry)) (now (stamps .entry)) (now (status .entry)) (now (lifted .entry)) (now (redone .entry))) ⌝ }
-    ensures claim { λ r. ⌜ (r ≡ Sound → Claim (now (starts .entry)) (now (links .entry)) (now (given .entry)) (now (requests .entry))) ⌝ }
+) -> Ran
+    ensures { λ r.
+        let lent = slices (old anchored) (old levels) (old layers) (old components) (old followers) (old stamps) (old status) (old lifted) (old redone) in
+        let after = slices (final anchored) (final levels) (final layers) (final components) (final followers) (final stamps) (final status) (final lifted) (final redone) in
+        let guard = runOf (old starts) (old links) (old given) (old requests) lent in
+        ⌜ (r ≡ answer guard Served Refused) × (after ≡ held guard (ended (old starts) (old links) (old given) (old requests)) lent) ⌝ }
+    ensures claim { λ r. ⌜ (r ≡ Served → Claim (old starts) (old links) (old given) (old requests)) ⌝ }
 {
-    let admitted = admit(
-        starts,
-        links,
-        given,
-        requests.len(),
+    let records = [
         anchored.len(),
         levels.len(),
         layers.len(),
         components.len(),
         followers.len(),
         stamps.len(),
-        status.len(),
-        lifted.len(),
-        redone.len(),
-    );
+    ];
+    let numbers = [status.len(), lifted.len(), redone.len()];
+    let admitted = admit(starts, links, given, requests.len(), &records, &numbers);
     match admitted {
-        table::Checked::Refused(refusal) => table::Checked::Refused(refusal),
-        table::Checked::Sound => {
+        table::Guard::Refused(refusal) => Ran::Refused(refusal),
+        table::Guard::Passed => {
             write(
                 starts,
                 links,
@@ -168,7 +167,7 @@ pub fn run(
                 lifted,
                 redone,
             );
-            table::Checked::Sound
+            Ran::Served
         }
     }
 }

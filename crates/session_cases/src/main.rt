@@ -3,13 +3,21 @@
 ghost use Prim.Native.Nat.{_≤_};
 ghost use lib.ListN.{length};
 use cases::print::rows;
+use session::run::Ran;
 
-fn run(name: &[u8], starts: &[u16], links: &[u16], given: &[u8], requests: &[u16])
+fn print_ran(name: &[u8], answer: Ran) {
+    match answer {
+        Ran::Served => cases::print::sound(name, b""),
+        Ran::Refused(refusal) => cases::print::refusal(name, b"", refusal),
+    }
+}
+
+fn run(name: &[u8], starts: &[u16], links: &[u16], given: &[u8], names: &[u16])
     requires { ⌜ length (now given) ≤ 4 ⌝ }
-    requires { ⌜ length (now requests) ≤ 4097 ⌝ }
+    requires { ⌜ length (now names) ≤ 4097 ⌝ }
 {
     let n = given.len();
-    let m = requests.len();
+    let m = names.len();
     let mut anchored = [7u8; 4];
     let mut levels = [7u16; 4];
     let mut layers = [7u16; 4];
@@ -23,7 +31,7 @@ fn run(name: &[u8], starts: &[u16], links: &[u16], given: &[u8], requests: &[u16
         starts,
         links,
         given,
-        requests,
+        names,
         &mut anchored[..n],
         &mut levels[..n],
         &mut layers[..n],
@@ -34,14 +42,8 @@ fn run(name: &[u8], starts: &[u16], links: &[u16], given: &[u8], requests: &[u16
         &mut lifted[..m],
         &mut redone[..m],
     );
-    cases::print::answer(name, b"", answer);
-    rows(
-        name,
-        b" requests: status: lifted",
-        requests,
-        &status,
-        &lifted,
-    );
+    print_ran(name, answer);
+    rows(name, b" requests: status: lifted", names, &status, &lifted);
     rows(name, b" redone: stamps: levels", &redone, &stamps, &levels);
     rows(
         name,

@@ -5,7 +5,7 @@ use mathlib.Core.List.{List, [], _∷_, _++_, append-nil, append-assoc}
 use Prim.Native.Nat.{ℕ, suc, _+_, _*_, _/_, _%_, _^_, _≤_, _<_}
 use native.Mathlib.Nat.{zero-mul, suc-mul, add-zero}
 use native.Mathlib.Omega.{arith}
-use lib.ListN.{length, drop, length-append}
+use lib.ListN.{length, length-append}
 use Rattle.finite.specs.Bytes.{decimal}
 use Rattle.finite.proofs.Count.{length-tabulate}
 use Rattle.finite.proofs.Bytes.{valueFrom, decimal-length}
@@ -13,7 +13,7 @@ use Rattle.sheet.specs.Written.{Written}
 use Rattle.sheet.specs.Line.{twoDigits, fourDigits, nameOf, retainPart, marksPart, lineOf, Round, sheetFrom, sheetOf, refusedLine}
 use Rattle.sheet.specs.declared.line.Chosen.{Chosen}
 use Rattle.sheet.specs.declared.line.Chosen.the-variants.{Vertex, Nobody}
-use Rattle.sheet.proofs.Written.{written-then, written-parts}
+use Rattle.sheet.proofs.Written.{written-then}
 
 -- ---- a line
 
@@ -56,16 +56,10 @@ sheet-more n round (q ∷ rs) r =
     let e : round + 1 + length rs ≡ round + suc (length rs) = omega arith in
     rw (sheet-more n (round + 1) rs r, e, append-assoc)
 
-module _ (n : ℕ) (rs : List Round) {o o₁ : List ℕ} {a₁ : ℕ} (p : Written o 0 (sheetOf n rs) o₁ a₁) where
-  -- a turn of the loop over the rounds
-  pub sheet-turn : (r : Round) {k : ℕ} {o₂ : List ℕ} {a₂ : ℕ} → k ≡ 1 + length rs → Written o₁ a₁ (lineOf k (r .chosen) (r .lifted) n (r .redone)) o₂ a₂ → Written o 0 (sheetOf n (rs ++ r ∷ [])) o₂ a₂
-  sheet-turn r e q = rw (sheet-more n 1 rs r, ← e) (written-then p q)
-
-  -- at the end: the sheet, and the bytes behind it as they were
-  pub sheet-whole : length rs * (48 + n) ≤ length o → (o₁ ≡ sheetOf n rs ++ drop (length rs * (48 + n)) o) × (a₁ ≡ length rs * (48 + n))
-  sheet-whole h =
-      let z : a₁ ≡ length rs * (48 + n) = omega (arith, p .ends, sheet-length n 1 rs) in
-      (written-parts p (omega (arith, sheet-length n 1 rs)) ∙ rw z, z)
+-- a turn of the loop over the rounds
+pub sheet-turn : (n : ℕ) (rs : List Round) {o o₁ : List ℕ} {a₁ : ℕ} → Written o 0 (sheetOf n rs) o₁ a₁
+    → (r : Round) {k : ℕ} {o₂ : List ℕ} {a₂ : ℕ} → k ≡ 1 + length rs → Written o₁ a₁ (lineOf k (r .chosen) (r .lifted) n (r .redone)) o₂ a₂ → Written o 0 (sheetOf n (rs ++ r ∷ [])) o₂ a₂
+sheet-turn n rs p r e q = rw (sheet-more n 1 rs r, ← e) (written-then p q)
 
 -- ---- numbers
 

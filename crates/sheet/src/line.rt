@@ -5,6 +5,7 @@ ghost use mathlib.Core.List.{[], _∷_, _++_};
 ghost use Prim.Native.Nat.{_+_, _≤_};
 ghost use lib.ListN.{length};
 ghost use lib.Dec.{eqb};
+ghost use Rattle.finite.specs.Moments.{old, final};
 ghost use Rattle.finite.specs.Bytes.{digit, decimal};
 ghost use Rattle.sheet.specs.Written.{Written};
 ghost use Rattle.sheet.specs.Line.{twoDigits, fourDigits, sign, liftedBy, signs, nameOf};
@@ -28,7 +29,7 @@ pub fn put_line(
 ) -> usize
     requires { ⌜ n ≤ 1024 ⌝ }
     requires { ⌜ at + (48 + n) ≤ length (now out) ⌝ }
-    ensures { λ r. ⌜ Written (now (out .entry)) at (lineOf round chosen (liftedBy (now (marks .entry))) n redone) (now (out .exit)) r ⌝ }
+    ensures { λ r. ⌜ Written (old out) at (lineOf round chosen (liftedBy (old marks)) n redone) (final out) r ⌝ }
 {
     let retain_at = put_round(out, at, round);
     let marks_at = put_retain(out, retain_at, chosen);
@@ -39,7 +40,7 @@ pub fn put_line(
 // `(refused N P)` and byte 10, at the front of `out`.
 pub fn put_refused(out: &mut [u8], number: usize, place: usize) -> usize
     requires { ⌜ 52 ≤ length (now out) ⌝ }
-    ensures { λ r. ⌜ Written (now (out .entry)) 0 (refusedLine number place) (now (out .exit)) r ⌝ }
+    ensures { λ r. ⌜ Written (old out) 0 (refusedLine number place) (final out) r ⌝ }
 {
     let place_at = put_labeled(out, 0, b"(refused ", number);
     let end = put_labeled(out, place_at, b" ", place);
@@ -49,7 +50,7 @@ pub fn put_refused(out: &mut [u8], number: usize, place: usize) -> usize
 // `(round 01`
 fn put_round(out: &mut [u8], at: usize, round: u16) -> usize
     requires { ⌜ at + 9 ≤ length (now out) ⌝ }
-    ensures { λ r. ⌜ Written (now (out .entry)) at (roundPart round) (now (out .exit)) r ⌝ }
+    ensures { λ r. ⌜ Written (old out) at (roundPart round) (final out) r ⌝ }
 {
     let round_at = put_text(out, at, b"(round ");
     put_two(out, round_at, round)
@@ -58,7 +59,7 @@ fn put_round(out: &mut [u8], at: usize, round: u16) -> usize
 // ` (retain 0000)`
 fn put_retain(out: &mut [u8], at: usize, chosen: Chosen) -> usize
     requires { ⌜ at + 14 ≤ length (now out) ⌝ }
-    ensures { λ r. ⌜ Written (now (out .entry)) at (retainPart chosen) (now (out .exit)) r ⌝ }
+    ensures { λ r. ⌜ Written (old out) at (retainPart chosen) (final out) r ⌝ }
 {
     let name_at = put_text(out, at, b" (retain ");
     let end = put_chosen(out, name_at, chosen);
@@ -69,7 +70,7 @@ fn put_retain(out: &mut [u8], at: usize, chosen: Chosen) -> usize
 fn put_marks(out: &mut [u8], at: usize, marks: &[u8; 1024], n: usize) -> usize
     requires { ⌜ n ≤ 1024 ⌝ }
     requires { ⌜ at + (9 + n) ≤ length (now out) ⌝ }
-    ensures { λ r. ⌜ Written (now (out .entry)) at (marksPart (liftedBy (now (marks .entry))) n) (now (out .exit)) r ⌝ }
+    ensures { λ r. ⌜ Written (old out) at (marksPart (liftedBy (old marks)) n) (final out) r ⌝ }
 {
     let signs_at = put_text(out, at, b" (marks ");
     let end = put_signs(out, signs_at, marks, n);
@@ -79,7 +80,7 @@ fn put_marks(out: &mut [u8], at: usize, marks: &[u8; 1024], n: usize) -> usize
 // ` (redone 0002))` and byte 10
 fn put_redone(out: &mut [u8], at: usize, redone: u16) -> usize
     requires { ⌜ at + 16 ≤ length (now out) ⌝ }
-    ensures { λ r. ⌜ Written (now (out .entry)) at (redonePart redone) (now (out .exit)) r ⌝ }
+    ensures { λ r. ⌜ Written (old out) at (redonePart redone) (final out) r ⌝ }
 {
     let redone_at = put_text(out, at, b" (redone ");
     let end = put_four(out, redone_at, redone);
@@ -89,7 +90,7 @@ fn put_redone(out: &mut [u8], at: usize, redone: u16) -> usize
 // Four digits of the vertex, or four dashes.
 fn put_chosen(out: &mut [u8], at: usize, chosen: Chosen) -> usize
     requires { ⌜ at + 4 ≤ length (now out) ⌝ }
-    ensures { λ r. ⌜ Written (now (out .entry)) at (nameOf chosen) (now (out .exit)) r ⌝ }
+    ensures { λ r. ⌜ Written (old out) at (nameOf chosen) (final out) r ⌝ }
 {
     match chosen {
         Chosen::Vertex(v) => put_four(out, at, v),
@@ -101,7 +102,7 @@ fn put_chosen(out: &mut [u8], at: usize, chosen: Chosen) -> usize
 fn put_signs(out: &mut [u8], at: usize, marks: &[u8; 1024], n: usize) -> usize
     requires { ⌜ n ≤ 1024 ⌝ }
     requires { ⌜ at + n ≤ length (now out) ⌝ }
-    ensures { λ r. ⌜ Written (now (out .entry)) at (signs (liftedBy (now (marks .entry))) n) (now (out .exit)) r ⌝ }
+    ensures { λ r. ⌜ Written (old out) at (signs (liftedBy (old marks)) n) (final out) r ⌝ }
 {
     let mut v: usize = 0;
     while v < n {
@@ -121,7 +122,7 @@ fn sign_of(mark: u8) -> u8
 // A label, then a number without leading zeros.
 fn put_labeled(out: &mut [u8], at: usize, label: &[u8], v: usize) -> usize
     requires { ⌜ at + (length (now label) + length (decimal v)) ≤ length (now out) ⌝ }
-    ensures { λ r. ⌜ Written (now (out .entry)) at (now (label .entry) ++ decimal v) (now (out .exit)) r ⌝ }
+    ensures { λ r. ⌜ Written (old out) at ((old label) ++ decimal v) (final out) r ⌝ }
 {
     let number_at = put_text(out, at, label);
     put_decimal(out, number_at, v)
@@ -130,7 +131,7 @@ fn put_labeled(out: &mut [u8], at: usize, label: &[u8], v: usize) -> usize
 // A number without leading zeros: the digits before the last, then the last.
 fn put_decimal(out: &mut [u8], at: usize, v: usize) -> usize
     requires { ⌜ at + length (decimal v) ≤ length (now out) ⌝ }
-    ensures { λ r. ⌜ Written (now (out .entry)) at (decimal v) (now (out .exit)) r ⌝ }
+    ensures { λ r. ⌜ Written (old out) at (decimal v) (final out) r ⌝ }
 {
     if v < 10 {
         return put_digit(out, at, v);
@@ -142,7 +143,7 @@ fn put_decimal(out: &mut [u8], at: usize, v: usize) -> usize
 // The last digit of a number.
 fn put_digit(out: &mut [u8], at: usize, v: usize) -> usize
     requires { ⌜ at + 1 ≤ length (now out) ⌝ }
-    ensures { λ r. ⌜ Written (now (out .entry)) at (digit v ∷ []) (now (out .exit)) r ⌝ }
+    ensures { λ r. ⌜ Written (old out) at (digit v ∷ []) (final out) r ⌝ }
 {
     out[at] = b'0' + (v % 10) as u8;
     at + 1
@@ -151,7 +152,7 @@ fn put_digit(out: &mut [u8], at: usize, v: usize) -> usize
 // Two digits.
 fn put_two(out: &mut [u8], at: usize, v: u16) -> usize
     requires { ⌜ at + 2 ≤ length (now out) ⌝ }
-    ensures { λ r. ⌜ Written (now (out .entry)) at (twoDigits v) (now (out .exit)) r ⌝ }
+    ensures { λ r. ⌜ Written (old out) at (twoDigits v) (final out) r ⌝ }
 {
     out[at] = b'0' + (v / 10 % 10) as u8;
     out[at + 1] = b'0' + (v % 10) as u8;
@@ -161,7 +162,7 @@ fn put_two(out: &mut [u8], at: usize, v: u16) -> usize
 // The writer of every field of four digits.
 fn put_four(out: &mut [u8], at: usize, v: u16) -> usize
     requires { ⌜ at + 4 ≤ length (now out) ⌝ }
-    ensures { λ r. ⌜ Written (now (out .entry)) at (fourDigits v) (now (out .exit)) r ⌝ }
+    ensures { λ r. ⌜ Written (old out) at (fourDigits v) (final out) r ⌝ }
 {
     out[at] = b'0' + (v / 1000 % 10) as u8;
     out[at + 1] = b'0' + (v / 100 % 10) as u8;
@@ -173,7 +174,7 @@ fn put_four(out: &mut [u8], at: usize, v: u16) -> usize
 // Copies a text.
 fn put_text(out: &mut [u8], at: usize, text: &[u8]) -> usize
     requires { ⌜ at + length (now text) ≤ length (now out) ⌝ }
-    ensures { λ r. ⌜ Written (now (out .entry)) at (now (text .entry)) (now (out .exit)) r ⌝ }
+    ensures { λ r. ⌜ Written (old out) at (old text) (final out) r ⌝ }
 {
     let mut i: usize = 0;
     while i < text.len() {

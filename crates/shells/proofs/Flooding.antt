@@ -342,7 +342,7 @@ module _ {s l a pending₀ labels₀ queue₀ pending labels queue seen : List �
     k-low : k < 65535
     k-low =
         let free = P .queued .labeled u (P .vertex) (label-below labels₀ u (omega (arith, P .label, visit-bounds))) .free in
-        omega (arith, level-lt G (simple s l (P .admitted .table)) A u (P .vertex) free, P .height, visit-bounds)
+        omega (arith, level-lt G (simple (P .admitted .table)) A u (P .vertex) free, P .height, visit-bounds)
 
     -- a neighbor that has a level there has no label, and a place in the queue
     joins-blank : getD pending w 0 ≤ k → T (blank labels w)
@@ -355,7 +355,7 @@ module _ {s l a pending₀ labels₀ queue₀ pending labels queue seen : List �
     joins-yes : getD pending w 0 ≡ k → Beside G A u w
     joins-yes e =
         let same : level G A w ≡ k = sym (pends-level o w (visit-bounds .0) (joins-blank (omega arith))) ∙ e in
-        let free = not-T (A w) (λ t. absurd (omega (arith, level-anchored G (simple s l (P .admitted .table)) A w t, k-low))) in
+        let free = not-T (A w) (λ t. absurd (omega (arith, level-anchored G (simple (P .admitted .table)) A w t, k-low))) in
         (listed, free, same ∙ sym (P .height))
 
     -- one that is beside u and has something else there has a label
@@ -377,7 +377,7 @@ module _ {s l pending₀ labels₀ queue₀ pending labels queue seen : List ℕ
           let table = P .admitted .table in
           let b = visit-bounds P (m .0) (m .1) w listed in
           let none = joins-blank P (m .0) (m .1) w listed (omega arith) in
-          (visit-label (m .0) w (simple s l table) (table .small) (P .below) (P .vertex) (P .label) (joins-yes P (m .0) (m .1) w listed e) none, pends-set (m .1) w start (b .0) (m .0 .queued .long) (omega arith));
+          (visit-label (m .0) w (simple table) (table .small) (P .below) (P .vertex) (P .label) (joins-yes P (m .0) (m .1) w listed e) none, pends-set (m .1) w start (b .0) (m .0 .queued .long) (omega arith));
     }
 
 -- no neighbor is seen
@@ -418,7 +418,7 @@ module _ {s l a pending labels queue : List ℕ} {k start head tail : ℕ} (F : 
       let q = f .flooding .queued in
       let h = q .held head some in
       let label : getD labels first 0 ≡ start = omega (arith, f .flooding .waiting head (omega arith) some) in
-      let same = joined-level (graphOf s l) (simple s l (f .admitted .table)) (anchoredBy a) first start (subst (Joined (graphOf s l) (anchoredBy a) first) label (q .labeled first (h .0) (h .1) .joined)) in
+      let same = joined-level (graphOf s l) (simple (f .admitted .table)) (anchoredBy a) first start (subst (Joined (graphOf s l) (anchoredBy a) first) label (q .labeled first (h .0) (h .1) .joined)) in
       record {
         admitted = f .admitted;
         queued = q;
@@ -436,7 +436,7 @@ module _ {s l a pending labels queue : List ℕ} {k start head tail : ℕ} (F : 
       let f = F .floods in
       let m = N .moves a spread-visit in
       record {
-        floods = record { admitted = f .admitted; flooding = advance (simple s l (f .admitted .table)) (f .flooding) some (m .0); pends = m .1 };
+        floods = record { admitted = f .admitted; flooding = advance (simple (f .admitted .table)) (f .flooding) some (m .0); pends = m .1 };
         vertex = F .vertex;
         height = F .height;
       }

@@ -210,7 +210,7 @@ module _ {a degree level₀ layer₀ queue₀ level layer queue : List ℕ} {k f
 
 -- ---- removing
 
-module _ (G : Graph) (a : List ℕ) {degree level layer queue : List ℕ} {k turn i end tail : ℕ} (size : Sized G a) (long : Long degree level layer queue)
+module _ {G : Graph} {a degree level layer queue : List ℕ} {k turn i end tail : ℕ} (size : Sized G a) (long : Long degree level layer queue)
     (first : i < end) (before : end ≤ tail)
     (P : Peels G a degree level layer k turn (slice i end queue) (slice end tail queue) [] (G .size) tail)
   where
@@ -252,7 +252,7 @@ module _ (G : Graph) (a : List ℕ) {degree level layer queue : List ℕ} {k tur
 
 -- ---- from turn to turn, and from shell to shell
 
-module _ (G : Graph) (a : List ℕ) {degree level layer : List ℕ} {k turn done : ℕ} where
+module _ {G : Graph} {a degree level layer : List ℕ} {k turn done : ℕ} where
   pub next-turn : {next : List ℕ} → Peels G a degree level layer k turn [] next [] (G .size) done → Peels G a degree level layer k (turn + 1) next [] [] (G .size) done
   next-turn P = record { peeling = advance (P .peeling); told = P .told }
 
@@ -260,9 +260,9 @@ module _ (G : Graph) (a : List ℕ) {degree level layer : List ℕ} {k turn done
   next-shell P low = record { peeling = rise (P .peeling) low; told = told-rise (P .told) }
 
 -- the arrays to begin with
-pub first-shell : (G : Graph) → Simple G → (a degree level layer : List ℕ) → Holds degree (G .size) (firstDegree G (anchoredBy a)) → Holds level (G .size) (λ v. 65535) → Holds layer (G .size) (λ v. 0)
+pub first-shell : {G : Graph} → Simple G → {a degree level layer : List ℕ} → Holds degree (G .size) (firstDegree G (anchoredBy a)) → Holds level (G .size) (λ v. 65535) → Holds layer (G .size) (λ v. 0)
     → Peels G a degree level layer 0 0 [] [] [] 0 0
-first-shell G L a degree level layer degrees levels layers = record {
+first-shell {G} L {a} {degree} {level} {layer} degrees levels layers = record {
   peeling = begin G L (anchoredBy a) (at degree) (at level) (at layer) (λ v b free. degrees v b ∙ rw (true-of (not (anchoredBy a v)) free) (omega arith)) levels layers;
   told = told-begin G (anchoredBy a) (at degree) (at level) (λ v b t. degrees v b ∙ rw (true-of (anchoredBy a v) t) (omega arith)) levels;
 }

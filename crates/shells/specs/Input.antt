@@ -4,9 +4,10 @@ use mathlib.Core.List.{List}
 use Prim.Native.Nat.{ℕ, _≤_, _<_}
 use lib.ListN.{length, getD}
 use lib.Dec.{ltb, eqb}
-use Rattle.table.specs.Table.{vertices, neighbors, checkOf, refused, refuse, SoundTable}
-use Rattle.table.specs.declared.Checked.{Checked}
-use Rattle.table.specs.declared.Checked.the-variants.{Sound, Refused}
+use Rattle.table.specs.Table.{vertices, neighbors, checkOf, SoundTable}
+use Rattle.table.specs.Guard.{refused, refuse, past}
+use Rattle.table.specs.declared.Guard.{Guard}
+use Rattle.table.specs.declared.Guard.the-variants.{Passed}
 use Rattle.anchored.specs.Graph.{Graph}
 
 -- the graph of a table
@@ -18,11 +19,8 @@ abbrev pub anchoredBy : List ℕ → ℕ → Bool
 anchoredBy a v = eqb (getD a v 0) 1
 
 -- refusals 1 to 8 of the table, 9 for bytes not n, 10 for a byte above 1
-unfoldable pub admitOf : List ℕ → List ℕ → List ℕ → Checked
-admitOf s l a = elim (checkOf s l) [
-  | Sound ↦ cond (not (eqb (length a) (vertices s))) (refused 9 0) (refuse 10 (λ v. ltb 1 (getD a v 0)) (vertices s) Sound)
-  | Refused r ↦ Refused r
-]
+unfoldable pub admitOf : List ℕ → List ℕ → List ℕ → Guard
+admitOf s l a = past (checkOf s l) (cond (not (eqb (length a) (vertices s))) (refused 9 0) (refuse 10 (λ v. ltb 1 (getD a v 0)) (vertices s) Passed))
 
 -- what admission promises
 pub record Admitted (s l a : List ℕ) : Type 0 where

@@ -1,4 +1,5 @@
 pub mod Input
 pub mod Arrays
+pub mod Sheet
 pub mod Peeling
 pub mod Flooding

@@ -3,11 +3,12 @@
 ghost use mathlib.Core.Path.{_≡_};
 ghost use Prim.Native.Nat.{_≤_};
 ghost use lib.ListN.{length, getD};
+ghost use Rattle.finite.specs.Moments.{old, final};
 ghost use Rattle.table.specs.Table.{vertices, neighbors};
-ghost use Rattle.anchored.specs.Core.{level as levelOf};
 ghost use Rattle.anchored.specs.Component.{component as componentOf};
-ghost use Rattle.shells.specs.Input.{graphOf, anchoredBy, Admitted};
+ghost use Rattle.shells.specs.Input.{graphOf, anchoredBy};
 ghost use Rattle.shells.specs.Arrays.{Holds};
+ghost use Rattle.shells.specs.Sheet.{Leveled};
 ghost use Rattle.shells.specs.Flooding.{CanVisit, Visits, CanSpread, Spreads};
 
 // Numbers the neighbors of u that join it, of level k and without a number, and puts them at the end of the queue. The result is the new end.
@@ -23,7 +24,9 @@ fn visit(
     tail: usize,
 ) -> usize
     requires { ⌜ CanVisit (now starts) (now links) (now pending) (now component) (now queue) k start u tail ⌝ }
-    ensures { λ r. ⌜ Visits (now (starts .entry)) (now (links .entry)) (now (pending .entry)) (now (component .entry)) (now (queue .entry)) k start u tail (neighbors (now (starts .entry)) (now (links .entry)) u) (now (pending .exit)) (now (component .exit)) (now (queue .exit)) r ⌝ }
+    ensures { λ r.
+        let seen = neighbors (old starts) (old links) u in
+        ⌜ Visits (old starts) (old links) (old pending) (old component) (old queue) k start u tail seen (final pending) (final component) (final queue) r ⌝ }
 {
     let part = table::neighbors(starts, links, u);
     let mut end = tail;
@@ -52,7 +55,7 @@ fn spread(
     tail: usize,
 ) -> usize
     requires { ⌜ CanSpread (now starts) (now links) (now pending) (now component) (now queue) start tail ⌝ }
-    ensures { λ r. ⌜ Spreads (now (starts .entry)) (now (links .entry)) (now (pending .entry)) (now (component .entry)) (now (queue .entry)) start tail (now (pending .exit)) (now (component .exit)) (now (queue .exit)) r ⌝ }
+    ensures { λ r. ⌜ Spreads (old starts) (old links) (old pending) (old component) (old queue) start tail (final pending) (final component) (final queue) r ⌝ }
 {
     let k = pending[start];
     pending[start] = 65535;
@@ -71,7 +74,7 @@ fn spread(
 // The first n levels: no vertex has a number yet.
 fn pend(level: &[u16], n: usize, pending: &mut [u16; 1024])
     requires { ⌜ (n ≤ length (now level)) × (n ≤ 1024) × (length (now pending) ≡ 1024) ⌝ }
-    ensures { λ _. ⌜ (length (now (pending .exit)) ≡ 1024) × Holds (now (pending .exit)) n (λ v. getD (now (level .entry)) v 0) ⌝ }
+    ensures { λ _. ⌜ (length (final pending) ≡ 1024) × Holds (final pending) n (λ v. getD (old level) v 0) ⌝ }
 {
     for v in 0..n {
         pending[v] = level[v];
@@ -86,10 +89,8 @@ pub fn flood(
     level: &[u16],
     component: &mut [u16; 1024],
 )
-    requires { ⌜ Admitted (now starts) (now links) (now anchored) ⌝ }
-    requires { ⌜ vertices (now starts) ≤ length (now level) ⌝ }
-    requires { ⌜ Holds (now level) (vertices (now starts)) (levelOf (graphOf (now starts) (now links)) (anchoredBy (now anchored))) ⌝ }
-    ensures { λ _. ⌜ Holds (now (component .exit)) (vertices (now (starts .entry))) (componentOf (graphOf (now (starts .entry)) (now (links .entry))) (anchoredBy (now (anchored .entry)))) ⌝ }
+    requires { ⌜ Leveled (now starts) (now links) (now anchored) (now level) ⌝ }
+    ensures { λ _. ⌜ Holds (final component) (vertices (old starts)) (componentOf (graphOf (old starts) (old links)) (anchoredBy (old anchored))) ⌝ }
 {
     let n = starts.len() - 1;
     let mut pending = [0u16; 1024];

@@ -2,12 +2,13 @@
 ghost use mathlib.Core.Path.{_≡_};
 ghost use lib.ListN.{length, getD};
 ghost use lib.Dec.{ltb};
+ghost use Rattle.finite.specs.Moments.{old};
 ghost use Rattle.finite.specs.Search.{first};
 ghost use Rattle.shells.specs.Input.{admitOf};
 
 // The first byte above 1, or the number of bytes.
 fn first_bad_byte(anchored: &[u8]) -> usize
-    ensures { λ r. ⌜ r ≡ first (λ v. ltb 1 (getD (now (anchored .entry)) v 0)) (length (now (anchored .entry))) ⌝ }
+    ensures { λ r. ⌜ r ≡ first (λ v. ltb 1 (getD (old anchored) v 0)) (length (old anchored)) ⌝ }
 {
     let mut v: usize = 0;
     while v < anchored.len() {
@@ -19,14 +20,14 @@ fn first_bad_byte(anchored: &[u8]) -> usize
     v
 }
 
-// Refusals 1 to 10, or `Sound`.
-pub fn admit(starts: &[u16], links: &[u16], anchored: &[u8]) -> table::Checked
-    ensures { λ r. ⌜ r ≡ admitOf (now (starts .entry)) (now (links .entry)) (now (anchored .entry)) ⌝ }
+// Refusals 1 to 10, or `Passed`.
+pub fn admit(starts: &[u16], links: &[u16], anchored: &[u8]) -> table::Guard
+    ensures { λ r. ⌜ r ≡ admitOf (old starts) (old links) (old anchored) ⌝ }
 {
-    let checked = table::check(starts, links);
+    let checked = table::test_table(starts, links);
     match checked {
-        table::Checked::Refused(refusal) => table::Checked::Refused(refusal),
-        table::Checked::Sound => {
+        table::Guard::Refused(refusal) => table::Guard::Refused(refusal),
+        table::Guard::Passed => {
             if anchored.len() != starts.len() - 1 {
                 return table::refused(9, 0);
             }
@@ -34,7 +35,7 @@ pub fn admit(starts: &[u16], links: &[u16], anchored: &[u8]) -> table::Checked
             if place < anchored.len() {
                 return table::refused(10, place);
             }
-            table::Checked::Sound
+            table::Guard::Passed
         }
     }
 }

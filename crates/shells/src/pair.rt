@@ -1,8 +1,10 @@
 // Levels and layers are two kinds of counts, ordered only as a pair, level first.
 ghost use mathlib.Core.Path.{_≡_};
+ghost use mathlib.Core.Bool.{not};
 ghost use Prim.Native.Nat.{_<_};
 ghost use lib.ListN.{length, getD};
 ghost use lib.Dec.{ltb};
+ghost use Rattle.finite.specs.Moments.{old};
 ghost use Rattle.finite.specs.Pairs.{pairLe};
 
 pub struct Level(pub u16);
@@ -15,14 +17,11 @@ pub struct Pair {
 }
 
 impl Pair {
-    pub fn new(level: u16, layer: u16) -> Pair
-        ensures level { λ r. ⌜ r .level .0 ≡ level ⌝ }
-        ensures layer { λ r. ⌜ r .layer .0 ≡ layer ⌝ }
+    pub fn new(level: Level, layer: Layer) -> Pair
+        ensures level { λ r. ⌜ r .level .0 ≡ level .0 ⌝ }
+        ensures layer { λ r. ⌜ r .layer .0 ≡ layer .0 ⌝ }
     {
-        Pair {
-            level: Level(level),
-            layer: Layer(layer),
-        }
+        Pair { level, layer }
     }
 
     // Whether this pair is at or above the other. An anchored vertex has level 65,535, so it stands above every pair of a sheet.
@@ -47,9 +46,22 @@ impl Pair {
 pub fn is_higher(levels: &[u16], p: usize, v: usize) -> bool
     requires { ⌜ p < length (now levels) ⌝ }
     requires { ⌜ v < length (now levels) ⌝ }
-    ensures { λ r. ⌜ r ≡ ltb (getD (now (levels .entry)) v 0) (getD (now (levels .entry)) p 0) ⌝ }
+    ensures { λ r. ⌜ r ≡ ltb (getD (old levels) v 0) (getD (old levels) p 0) ⌝ }
 {
-    let own = Pair::new(levels[v], 0);
-    let other = Pair::new(levels[p], 0);
+    let own = Pair::new(Level(levels[v]), Layer(0));
+    let other = Pair::new(Level(levels[p]), Layer(0));
     !own.at_or_above(other)
+}
+
+// Whether the pair of w is above that of u.
+pub fn is_above(levels: &[u16], layers: &[u16], w: usize, u: usize) -> bool
+    requires { ⌜ w < length (now levels) ⌝ }
+    requires { ⌜ w < length (now layers) ⌝ }
+    requires { ⌜ u < length (now levels) ⌝ }
+    requires { ⌜ u < length (now layers) ⌝ }
+    ensures { λ r. ⌜ r ≡ not (pairLe (getD (old levels) w 0) (getD (old layers) w 0) (getD (old levels) u 0) (getD (old layers) u 0)) ⌝ }
+{
+    let lower = Pair::new(Level(levels[u]), Layer(layers[u]));
+    let upper = Pair::new(Level(levels[w]), Layer(layers[w]));
+    !lower.at_or_above(upper)
 }

@@ -4,12 +4,12 @@ ghost use mathlib.Core.Bool.{not};
 ghost use mathlib.Core.List.{[], _∷_};
 ghost use Prim.Native.Nat.{_+_, _≤_, _<_};
 ghost use lib.ListN.{length, set, replicate};
+ghost use Rattle.finite.specs.Moments.{old, final};
 ghost use Rattle.finite.specs.Count.{below, count};
 ghost use Rattle.table.specs.Table.{vertices};
-ghost use Rattle.anchored.specs.Core.{level as levelOf};
-ghost use Rattle.anchored.specs.Core.{layer as layerOf};
 ghost use Rattle.shells.specs.Input.{graphOf, anchoredBy, Admitted};
 ghost use Rattle.shells.specs.Arrays.{Holds};
+ghost use Rattle.shells.specs.Sheet.{Sheet};
 ghost use Rattle.shells.specs.Peeling.{firstDegree, Peels, Long, CanStrike, Strikes, CanRemove, Removes, CanLook, Looks};
 
 // Gives v its level and its layer, and puts it at the end of the queue.
@@ -23,7 +23,7 @@ fn settle(
     tail: usize,
 ) -> usize
     requires { ⌜ (v < 1024) × (tail < 1024) ⌝ }
-    ensures { λ r. ⌜ (now (level .exit) ≡ set (now (level .entry)) v k) × (now (layer .exit) ≡ set (now (layer .entry)) v number) × (now (queue .exit) ≡ set (now (queue .entry)) tail v) × (r ≡ tail + 1) ⌝ }
+    ensures { λ r. ⌜ (final level ≡ set (old level) v k) × (final layer ≡ set (old layer) v number) × (final queue ≡ set (old queue) tail v) × (r ≡ tail + 1) ⌝ }
 {
     level[v] = k;
     layer[v] = number;
@@ -46,7 +46,7 @@ fn strike(
     requires { ⌜ turn ≤ 1024 ⌝ }
     requires { ⌜ Long (now degree) (now level) (now layer) (now queue) ⌝ }
     requires { ⌜ CanStrike (now degree) (now level) (now layer) k turn (w ∷ []) tail ⌝ }
-    ensures { λ r. ⌜ Strikes (now (degree .entry)) (now (level .entry)) (now (layer .entry)) (now (queue .entry)) (now (degree .exit)) (now (level .exit)) (now (layer .exit)) (now (queue .exit)) k turn (w ∷ []) tail r ⌝ }
+    ensures { λ r. ⌜ Strikes (old degree) (old level) (old layer) (old queue) (final degree) (final level) (final layer) (final queue) k turn (w ∷ []) tail r ⌝ }
 {
     let d = degree[w];
     degree[w] = d - (k < d) as u16;
@@ -70,7 +70,7 @@ fn lower(
     requires { ⌜ turn ≤ 1024 ⌝ }
     requires { ⌜ Long (now degree) (now level) (now layer) (now queue) ⌝ }
     requires { ⌜ CanStrike (now degree) (now level) (now layer) k turn (now part) tail ⌝ }
-    ensures { λ r. ⌜ Strikes (now (degree .entry)) (now (level .entry)) (now (layer .entry)) (now (queue .entry)) (now (degree .exit)) (now (level .exit)) (now (layer .exit)) (now (queue .exit)) k turn (now (part .entry)) tail r ⌝ }
+    ensures { λ r. ⌜ Strikes (old degree) (old level) (old layer) (old queue) (final degree) (final level) (final layer) (final queue) k turn (old part) tail r ⌝ }
 {
     let mut end = tail;
     for j in 0..part.len() {
@@ -95,7 +95,7 @@ fn batch(
     requires { ⌜ (head ≤ end) × (turn ≤ 1024) ⌝ }
     requires { ⌜ Long (now degree) (now level) (now layer) (now queue) ⌝ }
     requires { ⌜ CanRemove (now starts) (now links) (now degree) (now level) (now layer) (now queue) k turn head end ⌝ }
-    ensures { λ r. ⌜ Removes (now (starts .entry)) (now (links .entry)) (now (degree .entry)) (now (level .entry)) (now (layer .entry)) (now (queue .entry)) (now (degree .exit)) (now (level .exit)) (now (layer .exit)) (now (queue .exit)) k turn head end r ⌝ }
+    ensures { λ r. ⌜ Removes (old starts) (old links) (old degree) (old level) (old layer) (old queue) (final degree) (final level) (final layer) (final queue) k turn head end r ⌝ }
 {
     let mut tail = end;
     for i in head..end {
@@ -119,7 +119,7 @@ fn look(
 ) -> usize
     requires { ⌜ Long (now degree) (now level) (now layer) (now queue) ⌝ }
     requires { ⌜ CanLook (now anchored) (now degree) (now level) (now layer) k v (v + 1) tail ⌝ }
-    ensures { λ r. ⌜ Looks (now (anchored .entry)) (now (degree .entry)) (now (level .entry)) (now (layer .entry)) (now (queue .entry)) (now (level .exit)) (now (layer .exit)) (now (queue .exit)) k v (v + 1) tail r ⌝ }
+    ensures { λ r. ⌜ Looks (old anchored) (old degree) (old level) (old layer) (old queue) (final level) (final layer) (final queue) k v (v + 1) tail r ⌝ }
 {
     if degree[v] != k {
         return tail;
@@ -143,7 +143,7 @@ fn seed(
 ) -> usize
     requires { ⌜ Long (now degree) (now level) (now layer) (now queue) ⌝ }
     requires { ⌜ CanLook (now anchored) (now degree) (now level) (now layer) k 0 n tail ⌝ }
-    ensures { λ r. ⌜ Looks (now (anchored .entry)) (now (degree .entry)) (now (level .entry)) (now (layer .entry)) (now (queue .entry)) (now (level .exit)) (now (layer .exit)) (now (queue .exit)) k 0 n tail r ⌝ }
+    ensures { λ r. ⌜ Looks (old anchored) (old degree) (old level) (old layer) (old queue) (final level) (final layer) (final queue) k 0 n tail r ⌝ }
 {
     let mut end = tail;
     for v in 0..n {
@@ -168,7 +168,9 @@ fn shell(
     requires { ⌜ k < 1024 ⌝ }
     requires { ⌜ Long (now degree) (now level) (now layer) (now queue) ⌝ }
     requires { ⌜ Peels (graphOf (now starts) (now links)) (now anchored) (now degree) (now level) (now layer) k 0 [] [] [] 0 tail ⌝ }
-    ensures { λ r. ⌜ Long (now (degree .exit)) (now (level .exit)) (now (layer .exit)) (now (queue .exit)) × Peels (graphOf (now (starts .entry)) (now (links .entry))) (now (anchored .entry)) (now (degree .exit)) (now (level .exit)) (now (layer .exit)) (k + 1) 0 [] [] [] 0 r ⌝ }
+    ensures { λ r.
+        ⌜ Long (final degree) (final level) (final layer) (final queue)
+        × Peels (graphOf (old starts) (old links)) (old anchored) (final degree) (final level) (final layer) (k + 1) 0 [] [] [] 0 r ⌝ }
 {
     let mut head = tail;
     let mut end = seed(
@@ -204,7 +206,7 @@ fn shell(
 
 // Puts x into every place.
 fn fill(xs: &mut [u16], x: u16)
-    ensures { λ _. ⌜ now (xs .exit) ≡ replicate (length (now (xs .entry))) x ⌝ }
+    ensures { λ _. ⌜ final xs ≡ replicate (length (old xs)) x ⌝ }
 {
     for i in 0..xs.len() {
         xs[i] = x;
@@ -215,7 +217,7 @@ fn fill(xs: &mut [u16], x: u16)
 fn degrees(starts: &[u16], links: &[u16], anchored: &[u8], degree: &mut [u16; 1024])
     requires { ⌜ Admitted (now starts) (now links) (now anchored) ⌝ }
     requires { ⌜ length (now degree) ≡ 1024 ⌝ }
-    ensures { λ _. ⌜ (length (now (degree .exit)) ≡ 1024) × Holds (now (degree .exit)) (vertices (now (starts .entry))) (firstDegree (graphOf (now (starts .entry)) (now (links .entry))) (anchoredBy (now (anchored .entry)))) ⌝ }
+    ensures { λ _. ⌜ (length (final degree) ≡ 1024) × Holds (final degree) (vertices (old starts)) (firstDegree (graphOf (old starts) (old links)) (anchoredBy (old anchored))) ⌝ }
 {
     let n = starts.len() - 1;
     for v in 0..n {
@@ -227,7 +229,7 @@ fn degrees(starts: &[u16], links: &[u16], anchored: &[u8], degree: &mut [u16; 10
 // How many of n vertices are not anchored.
 fn count_free(anchored: &[u8], n: usize) -> usize
     requires { ⌜ n ≤ length (now anchored) ⌝ }
-    ensures { λ r. ⌜ r ≡ count (λ v. not (anchoredBy (now (anchored .entry)) v)) (below n) ⌝ }
+    ensures { λ r. ⌜ r ≡ count (λ v. not (anchoredBy (old anchored) v)) (below n) ⌝ }
 {
     let mut count: usize = 0;
     for v in 0..n {
@@ -245,8 +247,7 @@ pub fn peel(
     layer: &mut [u16; 1024],
 )
     requires { ⌜ Admitted (now starts) (now links) (now anchored) ⌝ }
-    ensures levels { λ _. ⌜ Holds (now (level .exit)) (vertices (now (starts .entry))) (levelOf (graphOf (now (starts .entry)) (now (links .entry))) (anchoredBy (now (anchored .entry)))) ⌝ }
-    ensures layers { λ _. ⌜ Holds (now (layer .exit)) (vertices (now (starts .entry))) (layerOf (graphOf (now (starts .entry)) (now (links .entry))) (anchoredBy (now (anchored .entry)))) ⌝ }
+    ensures { λ _. ⌜ Sheet (old starts) (old links) (old anchored) (final level) (final layer) ⌝ }
 {
     let mut degree = [0u16; 1024];
     let mut queue = [0u16; 1024];

@@ -12,7 +12,7 @@ use lib.Dec.{T, ltb, eqb, eqb→eq, ltb→lt, nltb→le}
 use borrow.Author.Tests.{lt-ltb, le-ltb, eq-eqb, ne-eqb}
 use Rattle.finite.specs.Count.{bit, count, below}
 use Rattle.finite.proofs.Tests.{split, true-of, false-of, of-true, and-l, neqb}
-use Rattle.finite.proofs.Count.{set-reads, length-below, count-length, count-below-zero, count-below-more}
+use Rattle.finite.proofs.Count.{set-reads, in-below, length-below, count-length, count-cong, count-below-zero, count-below-more}
 use Rattle.table.specs.Table.{vertices}
 use Rattle.anchored.specs.Graph.{Graph}
 use Rattle.anchored.specs.Followers.{adding, follows, followers, followerCount}
@@ -23,9 +23,11 @@ use Rattle.anchored.proofs.Session.{status-free, turn-accepted, turn-refused, r
 use Rattle.shells.specs.Input.{graphOf, anchoredBy, Admitted}
 use Rattle.shells.specs.Arrays.{Holds}
 use Rattle.shells.proofs.Laws.{simple}
-use Rattle.change.specs.Sheet.{Sheet}
-use Rattle.step.specs.Record.{Right, plainOf, rowAs}
-use Rattle.step.specs.Rows.{Renewed, Redone, Stands}
+use Rattle.stale.specs.Columns.{ColumnsOf}
+use Rattle.stale.specs.declared.Columns.{Columns}
+use Rattle.step.specs.Record.{Right, plainOf, Stands, rowAs, Turned}
+use Rattle.step.specs.Rows.{staleBy, Renewed, Redone}
+use Rattle.step.specs.declared.record.Record.{Record}
 
 -- ---- bytes
 
@@ -82,121 +84,143 @@ module _ (p : ℕ → Bool) (f : ℕ → ℕ) (old : List ℕ) where
   renewed-all : (new : List ℕ) (n : ℕ) → Renewed p f old new n → (v : ℕ) → v < n → getD new v 0 ≡ cond (p v) (f v) (getD old v 0)
   renewed-all new n r v h = rw (lt-ltb v n h) at (r v)
 
-module _ (s l a b : List ℕ) (position : ℕ) (fol st : List ℕ) where
-  abbrev again : ℕ → Bool
-  again = recomputed (graphOf s l) (anchoredBy a) (anchoredBy b)
+  -- tests alike below u renew alike
+  renewed-cong : (q : ℕ → Bool) (new : List ℕ) (u : ℕ) → ((v : ℕ) → v < u → p v ≡ q v) → Renewed p f old new u → Renewed q f old new u
+  renewed-cong q new u e r v =
+      let alike : ltb v u && p v ≡ ltb v u && q v = split (ltb v u) (λ t. rw (true-of (ltb v u) t) (e v (ltb→lt v u t))) (λ t. rw (false-of (ltb v u) t)) in
+      r v ∙ ap (λ b. cond b (f v) (getD old v 0)) alike
 
-  abbrev fresh : ℕ → ℕ
-  fresh = followers (graphOf s l) (anchoredBy b)
+-- what a row worked afresh gets
+abbrev fresh : List ℕ → List ℕ → List ℕ → ℕ → ℕ
+fresh s l a = followers (graphOf s l) (anchoredBy a)
 
+module _ {s l a : List ℕ} {p : ℕ → Bool} {position : ℕ} {fol st : List ℕ} where
   -- before the first row
-  pub redone-begin : Redone s l a b position fol st fol st 0 0
+  pub redone-begin : Redone s l a p position fol st fol st 0 0
   redone-begin = record {
-    counts = renewed-begin again fresh fol;
-    stamps = renewed-begin again (λ v. position) st;
+    counts = renewed-begin p (fresh s l a) fol;
+    stamps = renewed-begin p (λ v. position) st;
     counts-long = refl;
     stamps-long = refl;
-    number = sym (count-below-zero again);
+    number = sym (count-below-zero p);
   }
 
-  module _ (folNow stNow : List ℕ) (redone u : ℕ) (r : Redone s l a b position fol st folNow stNow redone u) where
+  module _ {folNow stNow : List ℕ} {redone u : ℕ} (r : Redone s l a p position fol st folNow stNow redone u) where
     pub redone-le : redone ≤ u
-    redone-le = omega (arith, r .number, count-length again (below u), length-below u)
+    redone-le = omega (arith, r .number, count-length p (below u), length-below u)
 
-    -- a row that is not recomputed
-    pub redone-skip : again u ≡ false → Redone s l a b position fol st folNow stNow redone (u + 1)
+    -- a row that is not stale
+    pub redone-skip : p u ≡ false → Redone s l a p position fol st folNow stNow redone (u + 1)
     redone-skip e = record {
-      counts = renewed-skip again fresh fol folNow u e (r .counts);
-      stamps = renewed-skip again (λ v. position) st stNow u e (r .stamps);
+      counts = renewed-skip p (fresh s l a) fol folNow u e (r .counts);
+      stamps = renewed-skip p (λ v. position) st stNow u e (r .stamps);
       counts-long = r .counts-long;
       stamps-long = r .stamps-long;
-      number = omega (arith, r .number, count-below-more again u, ap bit e);
+      number = omega (arith, r .number, count-below-more p u, ap bit e);
     }
 
-    -- a recomputed row gets its fresh count and the stamp
-    pub redone-more : (anew : ℕ) → anew ≡ followers (graphOf s l) (anchoredBy b) u → again u ≡ true → u < length fol → u < length st
-        → Redone s l a b position fol st (set folNow u anew) (set stNow u position) (redone + 1) (u + 1)
+    -- a stale row gets its fresh count and the stamp
+    pub redone-more : (anew : ℕ) → anew ≡ fresh s l a u → p u ≡ true → u < length fol → u < length st
+        → Redone s l a p position fol st (set folNow u anew) (set stNow u position) (redone + 1) (u + 1)
     redone-more anew q e hf hs = record {
-      counts = subst (λ z. Renewed again fresh fol (set folNow u z) (u + 1)) (sym q) (renewed-more again fresh fol folNow u e (omega (arith, r .counts-long)) (r .counts));
-      stamps = renewed-more again (λ v. position) st stNow u e (omega (arith, r .stamps-long)) (r .stamps);
+      counts = subst (λ z. Renewed p (fresh s l a) fol (set folNow u z) (u + 1)) (sym q) (renewed-more p (fresh s l a) fol folNow u e (omega (arith, r .counts-long)) (r .counts));
+      stamps = renewed-more p (λ v. position) st stNow u e (omega (arith, r .stamps-long)) (r .stamps);
       counts-long = length-set folNow u anew ∙ r .counts-long;
       stamps-long = length-set stNow u position ∙ r .stamps-long;
-      number = omega (arith, r .number, count-below-more again u, ap bit e);
+      number = omega (arith, r .number, count-below-more p u, ap bit e);
+    }
+
+    -- the rows that pass may be named by another test
+    pub redone-named : {q : ℕ → Bool} → ((v : ℕ) → v < u → p v ≡ q v) → Redone s l a q position fol st folNow stNow redone u
+    redone-named {q} e = record {
+      counts = renewed-cong p (fresh s l a) fol q folNow u e (r .counts);
+      stamps = renewed-cong p (λ v. position) st q stNow u e (r .stamps);
+      counts-long = r .counts-long;
+      stamps-long = r .stamps-long;
+      number = r .number ∙ count-cong p q (below u) (λ v i. e v (in-below u v .0 i));
     }
 
 -- ---- the step
 
-module _ (s l a lev lay comps fol st : List ℕ) (right : Right s l a lev lay comps fol) (x : ℕ) (bx : x < vertices s) (free : T (not (anchoredBy a x)))
-    (position : ℕ) (folNow stNow : List ℕ) (redone : ℕ) (r : Redone s l a (set a x 1) position fol st folNow stNow redone (vertices s)) where
+module _ {s l : List ℕ} {kept : Record} (right : Right s l kept) (x : ℕ) (bx : x < vertices s) (free : T (not (anchoredBy (kept .anchored) x)))
+    {position : ℕ} {folNow stNow : List ℕ} {redone : ℕ} (r : Redone s l (set (kept .anchored) x 1) (recomputed (graphOf s l) (anchoredBy (kept .anchored)) (anchoredBy (set (kept .anchored) x 1))) position (kept .followers) (kept .stamp) folNow stNow redone (vertices s)) where
   abbrev G : Graph
   G = graphOf s l
 
   abbrev A : ℕ → Bool
-  A = anchoredBy a
+  A = anchoredBy (kept .anchored)
+
+  abbrev bytes : List ℕ
+  bytes = set (kept .anchored) x 1
 
   abbrev S : Plain
-  S = plainOf a st
+  S = plainOf kept
 
   accepted : statusOf G A x ≡ 0
   accepted = status-free G A x .1 (bx, free)
 
-  bytes-after : anchoredBy (set a x 1) ≡ adding A x
-  bytes-after = anchored-set a x (omega (arith, right .sheet .admitted .long))
+  bytes-after : anchoredBy bytes ≡ adding A x
+  bytes-after = anchored-set (kept .anchored) x (omega (arith, right .admitted .long))
 
-  fresh-counts : Renewed (recomputed G A (adding A x)) (followers G (adding A x)) fol folNow (vertices s)
+  fresh-counts : Renewed (recomputed G A (adding A x)) (followers G (adding A x)) (kept .followers) folNow (vertices s)
       → Holds (set folNow x 65535) (vertices s) (followerCount G (adding A x))
   unfolding followerCount
   fresh-counts counts v h =
       set-reads folNow x 65535 v (λ e. omega (arith, r .counts-long, right .counts-long))
-      ∙ ap (cond (eqb x v) 65535) (renewed-all (recomputed G A (adding A x)) (followers G (adding A x)) fol folNow (vertices s) counts v h)
+      ∙ ap (cond (eqb x v) 65535) (renewed-all (recomputed G A (adding A x)) (followers G (adding A x)) (kept .followers) folNow (vertices s) counts v h)
       ∙ ap (λ z. cond (eqb x v) 65535 (cond (recomputed G A (adding A x) v) (followers G (adding A x) v) z)) (right .counts v h)
-      ∙ renewed-fresh G A x (followers G) v (λ t k. kept-followers G (simple s l (right .sheet .admitted .table)) A x v h t k)
+      ∙ renewed-fresh G A x (followers G) v (λ t k. kept-followers G (simple (right .admitted .table)) A x v h t k)
 
   -- with 65,535 put at x the follower counts are right
-  counts-after : Holds (set folNow x 65535) (vertices s) (followerCount G (anchoredBy (set a x 1)))
-  counts-after = subst (λ B. Renewed (recomputed G A B) (followers G B) fol folNow (vertices s) → Holds (set folNow x 65535) (vertices s) (followerCount G B))
+  counts-after : Holds (set folNow x 65535) (vertices s) (followerCount G (anchoredBy bytes))
+  counts-after = subst (λ B. Renewed (recomputed G A B) (followers G B) (kept .followers) folNow (vertices s) → Holds (set folNow x 65535) (vertices s) (followerCount G B))
       (sym bytes-after) fresh-counts (r .counts)
 
-  pub right-after : (levNow layNow compsNow : List ℕ) → Sheet s l (set a x 1) levNow layNow compsNow → Right s l (set a x 1) levNow layNow compsNow (set folNow x 65535)
-  right-after levNow layNow compsNow sheet = record {
-    sheet = sheet;
-    counts = counts-after;
-    counts-long = omega (arith, length-set folNow x 65535, r .counts-long, right .counts-long);
-  }
-
-  fresh-stamps : vertices s ≤ length st → Renewed (recomputed G A (adding A x)) (λ v. position) st stNow (vertices s)
-      → Holds (set stNow x position) (vertices s) (turn G position x S .stamps)
-  fresh-stamps long stamps v h =
-      set-reads stNow x position v (λ e. omega (arith, r .stamps-long))
-      ∙ ap (cond (eqb x v) position) (renewed-all (recomputed G A (adding A x)) (λ v. position) st stNow (vertices s) stamps v h)
+  fresh-stamps : Renewed (recomputed G A (adding A x)) (λ v. position) (kept .stamp) stNow (vertices s) → Holds (set stNow x position) (vertices s) (turn G position x S .stamps)
+  fresh-stamps stamps v h =
+      set-reads stNow x position v (λ e. omega (arith, r .stamps-long, right .stamps-long))
+      ∙ ap (cond (eqb x v) position) (renewed-all (recomputed G A (adding A x)) (λ v. position) (kept .stamp) stNow (vertices s) stamps v h)
       ∙ either (eqb x v) (recomputed G A (adding A x) v)
       ∙ ap (λ P. P .stamps v) (sym (turn-accepted G S x position accepted))
     where
-      either : (b c : Bool) → cond b position (cond c position (getD st v 0)) ≡ cond (b || c) position (getD st v 0)
+      either : (b c : Bool) → cond b position (cond c position (getD (kept .stamp) v 0)) ≡ cond (b || c) position (getD (kept .stamp) v 0)
       either true c = refl
       either false c = refl
 
-  -- with the position put at x the bytes and the stamps stand for the plain session's turn
-  pub stands-after : vertices s ≤ length st → Stands (vertices s) (set a x 1) (set stNow x position) (turn G position x S)
-  stands-after long = record {
-    anchors = bytes-after ∙ ap (λ P. P .anchors) (sym (turn-accepted G S x position accepted));
-    stamps = subst (λ B. Renewed (recomputed G A B) (λ v. position) st stNow (vertices s) → Holds (set stNow x position) (vertices s) (turn G position x S .stamps))
-        (sym bytes-after) (fresh-stamps long) (r .stamps);
-    stamps-long = omega (arith, length-set stNow x position, r .stamps-long);
-  }
+  -- with the position put at x the stamps are those of the plain session's turn
+  stamps-after : Holds (set stNow x position) (vertices s) (turn G position x S .stamps)
+  stamps-after = subst (λ B. Renewed (recomputed G A B) (λ v. position) (kept .stamp) stNow (vertices s) → Holds (set stNow x position) (vertices s) (turn G position x S .stamps))
+      (sym bytes-after) fresh-stamps (r .stamps)
 
-  -- and the numbers are those of the request
+  -- the numbers are those of the request
   row-after : rowOf G S x ≡ record { status = 0; lifted = followers G A x; redone = redone }
   row-after = row-accepted G S x accepted
       ∙ ap (λ (n : ℕ). record { status = 0; lifted = followers G A x; redone = n }) (ap (λ B. count (recomputed G A B) (below (vertices s))) (sym bytes-after) ∙ sym (r .number))
 
   -- the count that the record has for x is the number lifted
-  counted : getD fol x 0 ≡ followers G A x
+  counted : getD (kept .followers) x 0 ≡ followers G A x
   unfolding followerCount
   counted = right .counts x bx ∙ ap (λ b. cond b 65535 (followers G A x)) (false-of (A x) free)
 
-  pub row-counted : rowAs 0 (getD fol x 0) redone ≡ rowOf G S x
-  row-counted = ap (λ (n : ℕ). rowAs 0 n redone) counted ∙ sym row-after
+  row-counted : rowAs (record { status = 0; lifted = getD (kept .followers) x 0; redone = redone }) ≡ rowOf G S x
+  row-counted = ap (λ (n : ℕ). rowAs (record { status = 0; lifted = n; redone = redone })) counted ∙ sym row-after
+
+  -- so the fresh columns and these rows are one turn of the plain session
+  pub turned : {columns : Columns} → Admitted s l bytes → ColumnsOf G (anchoredBy bytes) columns → Turned s l position x kept (record {
+    kept = record { anchored = bytes; columns = columns; followers = set folNow x 65535; stamp = set stNow x position };
+    row = record { status = 0; lifted = getD (kept .followers) x 0; redone = redone };
+  })
+  turned admits defined = record {
+    right = record {
+      admitted = admits;
+      columns = defined;
+      counts = counts-after;
+      counts-long = omega (arith, length-set folNow x 65535, r .counts-long, right .counts-long);
+      stamps-long = omega (arith, length-set stNow x position, r .stamps-long, right .stamps-long);
+    };
+    stands = record { anchors = bytes-after ∙ ap (λ P. P .anchors) (sym (turn-accepted G S x position accepted)); stamps = stamps-after };
+    row = row-counted;
+  }
 
 -- ---- the session
 
@@ -205,10 +229,10 @@ pub followers-le : (G : Graph) (A : ℕ → Bool) (x : ℕ) → followers G A x 
 unfolding followers
 followers-le G A x = omega (arith, count-length (follows G A x) (below (G .size)), length-below (G .size))
 
--- a recomputed row is not that of an anchored vertex: its count is that of its followers
-pub recomputed-count : (G : Graph) (A B : ℕ → Bool) (u : ℕ) → recomputed G A B u ≡ true → followerCount G B u ≡ followers G B u
-unfolding recomputed followerCount
-recomputed-count G A B u e = rw (false-of (B u) (and-l (not (B u)) _ (of-true _ e)))
+-- a stale row is not that of an anchored vertex: its count is that of its followers
+pub stale-count : (G : Graph) (a marks : List ℕ) (u : ℕ) → staleBy a marks u ≡ true → followerCount G (anchoredBy a) u ≡ followers G (anchoredBy a) u
+unfolding followerCount
+stale-count G a marks u e = rw (false-of (anchoredBy a u) (and-l (not (anchoredBy a u)) _ (of-true _ e)))
 
 -- the two halves of what a request leaves
 turn-anchors : (G : Graph) (position x : ℕ) (S : Plain) → turn G position x S .anchors ≡ cond (eqb (statusOf G (S .anchors) x) 0) (adding (S .anchors) x) (S .anchors)
@@ -222,76 +246,63 @@ turn-stamps G position x S v = let accepts = eqb (statusOf G (S .anchors) x) 0 i
 
 module _ (s l : List ℕ) where
   -- at the start: bytes that read as the given ones, and stamps 0
-  pub stands-start : (given a st requests : List ℕ) → ((v : ℕ) → getD a v 0 ≡ getD given v 0) → Holds st (vertices s) (λ v. 0) → vertices s ≤ length st
-      → Stands (vertices s) a st (after (graphOf s l) (anchoredBy given) requests 0)
+  pub stands-start : (given requests : List ℕ) (kept : Record) → ((v : ℕ) → getD (kept .anchored) v 0 ≡ getD given v 0) → Holds (kept .stamp) (vertices s) (λ v. 0)
+      → Stands (vertices s) kept (after (graphOf s l) (anchoredBy given) requests 0)
   unfolding after
-  stands-start given a st requests e zeros long = record { anchors = anchored-same given a e; stamps = zeros; stamps-long = long }
+  stands-start given requests kept e zeros = record { anchors = anchored-same given (kept .anchored) e; stamps = zeros }
 
-  module _ (a st : List ℕ) (S : Plain) (h : Stands (vertices s) a st S) where
+  module _ {kept : Record} {S : Plain} (h : Stands (vertices s) kept S) where
     abbrev own : Plain
-    own = plainOf a st
+    own = plainOf kept
 
-    -- a request has the status and the numbers that it has in the plain session
-    pub stands-status : (x : ℕ) → statusOf (graphOf s l) (anchoredBy a) x ≡ statusOf (graphOf s l) (S .anchors) x
-    stands-status x = ap (λ B. statusOf (graphOf s l) B x) (h .anchors)
-
+    -- a request has the numbers that it has in the plain session
     pub stands-row : (x : ℕ) → rowOf (graphOf s l) own x ≡ rowOf (graphOf s l) S x
     unfolding rowOf
     stands-row x = ap (λ B. rowOf (graphOf s l) (record { anchors = B; stamps = S .stamps }) x) (h .anchors)
 
     -- and leaves what it leaves there
-    pub stands-anchors : (position x : ℕ) → turn (graphOf s l) position x own .anchors ≡ turn (graphOf s l) position x S .anchors
+    stands-anchors : (position x : ℕ) → turn (graphOf s l) position x own .anchors ≡ turn (graphOf s l) position x S .anchors
     stands-anchors position x =
         turn-anchors (graphOf s l) position x own
         ∙ ap (λ B. cond (eqb (statusOf (graphOf s l) B x) 0) (adding B x) B) (h .anchors)
         ∙ sym (turn-anchors (graphOf s l) position x S)
 
-    pub stands-stamps : (position x v : ℕ) → v < vertices s → turn (graphOf s l) position x own .stamps v ≡ turn (graphOf s l) position x S .stamps v
+    stands-stamps : (position x v : ℕ) → v < vertices s → turn (graphOf s l) position x own .stamps v ≡ turn (graphOf s l) position x S .stamps v
     stands-stamps position x v b =
         let G = graphOf s l in
         let stamped : (ℕ → Bool) → ℕ → ℕ = λ B z. cond (eqb (statusOf G B x) 0) (cond (eqb x v || recomputed G B (adding B x) v) position z) z in
         turn-stamps G position x own v
-        ∙ ap (λ B. stamped B (getD st v 0)) (h .anchors)
+        ∙ ap (λ B. stamped B (getD (kept .stamp) v 0)) (h .anchors)
         ∙ ap (stamped (S .anchors)) (h .stamps v b)
         ∙ sym (turn-stamps G position x S v)
 
     -- so what stands for its turn of the record's session stands for its turn of the plain session
-    pub stands-turn : (position x : ℕ) (aNow stNow : List ℕ) → Stands (vertices s) aNow stNow (turn (graphOf s l) position x own)
-        → Stands (vertices s) aNow stNow (turn (graphOf s l) position x S)
-    stands-turn position x aNow stNow g = record {
-      anchors = g .anchors ∙ stands-anchors position x;
-      stamps = λ v b. g .stamps v b ∙ stands-stamps position x v b;
-      stamps-long = g .stamps-long;
-    }
+    pub stands-turn : {next : Record} (position x : ℕ) → Stands (vertices s) next (turn (graphOf s l) position x own) → Stands (vertices s) next (turn (graphOf s l) position x S)
+    stands-turn position x g = record { anchors = g .anchors ∙ stands-anchors position x; stamps = λ v b. g .stamps v b ∙ stands-stamps position x v b }
 
   -- one request more
-  pub stands-more : (given requests : List ℕ) (i : ℕ) (a st aNow stNow : List ℕ) → Stands (vertices s) a st (after (graphOf s l) (anchoredBy given) requests i)
-      → Stands (vertices s) aNow stNow (turn (graphOf s l) (i + 1) (getD requests i 0) (plainOf a st))
-      → Stands (vertices s) aNow stNow (after (graphOf s l) (anchoredBy given) requests (i + 1))
-  stands-more given requests i a st aNow stNow h g =
-      subst (Stands (vertices s) aNow stNow) (sym (after-more (graphOf s l) (anchoredBy given) requests i))
-      (stands-turn a st (after (graphOf s l) (anchoredBy given) requests i) h (i + 1) (getD requests i 0) aNow stNow g)
+  pub stands-more : (given requests : List ℕ) (i : ℕ) {kept next : Record} → Stands (vertices s) kept (after (graphOf s l) (anchoredBy given) requests i)
+      → Stands (vertices s) next (turn (graphOf s l) (i + 1) (getD requests i 0) (plainOf kept))
+      → Stands (vertices s) next (after (graphOf s l) (anchoredBy given) requests (i + 1))
+  stands-more given requests i {kept} {next} h g =
+      subst (Stands (vertices s) next) (sym (after-more (graphOf s l) (anchoredBy given) requests i)) (stands-turn h (i + 1) (getD requests i 0) g)
 
-  -- a refused request leaves the record
-  pub stands-refused : (a st : List ℕ) (position x : ℕ) → vertices s ≤ length st → (statusOf (graphOf s l) (anchoredBy a) x ≡ 0 → ⊥) → Stands (vertices s) a st (turn (graphOf s l) position x (plainOf a st))
-  stands-refused a st position x long n =
-      subst (Stands (vertices s) a st) (sym (turn-refused (graphOf s l) (plainOf a st) x position n)) record { anchors = refl; stamps = λ v b. refl; stamps-long = long }
+-- the two refusals of a request leave the record: no vertex, or one that is anchored
+module _ {s l : List ℕ} {kept : Record} (right : Right s l kept) (position x : ℕ) where
+  refused-with : (k : ℕ) → statusOf (graphOf s l) (anchoredBy (kept .anchored)) x ≡ k → 0 < k → Turned s l position x kept (record { kept = kept; row = record { status = k; lifted = 0; redone = 0 } })
+  unfolding rowOf
+  refused-with k e h =
+      let off : eqb (statusOf (graphOf s l) (anchoredBy (kept .anchored)) x) 0 ≡ false = ne-eqb (statusOf (graphOf s l) (anchoredBy (kept .anchored)) x) 0 (λ z. absurd (omega arith)) in
+      record {
+        right = right;
+        stands = subst (Stands (vertices s) kept) (sym (turn-refused (graphOf s l) (plainOf kept) x position (λ z. absurd (omega arith)))) record { anchors = refl; stamps = λ v b. refl };
+        row = rw (off, e);
+      }
 
-  -- the two refusals of a request: no vertex, or one that is anchored
-  module _ (a st : List ℕ) (position x : ℕ) (long : vertices s ≤ length st) where
-    refused-with : (k : ℕ) → statusOf (graphOf s l) (anchoredBy a) x ≡ k → 0 < k
-        → Stands (vertices s) a st (turn (graphOf s l) position x (plainOf a st)) × (rowAs k 0 0 ≡ rowOf (graphOf s l) (plainOf a st) x)
-    unfolding rowOf
-    refused-with k e h = (
-      stands-refused a st position x long (λ z. absurd (omega arith)),
-      let off : eqb (statusOf (graphOf s l) (anchoredBy a) x) 0 ≡ false = ne-eqb (statusOf (graphOf s l) (anchoredBy a) x) 0 (λ z. absurd (omega arith)) in
-          rw (off, e),
-    )
+  pub refused-vertex : vertices s ≤ x → Turned s l position x kept (record { kept = kept; row = record { status = 15; lifted = 0; redone = 0 } })
+  unfolding statusOf
+  refused-vertex h = refused-with 15 (rw (le-ltb x (vertices s) h)) (omega arith)
 
-    pub refused-vertex : vertices s ≤ x → Stands (vertices s) a st (turn (graphOf s l) position x (plainOf a st)) × (rowAs 15 0 0 ≡ rowOf (graphOf s l) (plainOf a st) x)
-    unfolding statusOf
-    refused-vertex h = refused-with 15 (rw (le-ltb x (vertices s) h)) (omega arith)
-
-    pub refused-anchored : x < vertices s → getD a x 0 ≡ 1 → Stands (vertices s) a st (turn (graphOf s l) position x (plainOf a st)) × (rowAs 16 0 0 ≡ rowOf (graphOf s l) (plainOf a st) x)
-    unfolding statusOf
-    refused-anchored h e = refused-with 16 (rw (lt-ltb x (vertices s) h, eq-eqb (getD a x 0) 1 e)) (omega arith)
+  pub refused-anchored : x < vertices s → getD (kept .anchored) x 0 ≡ 1 → Turned s l position x kept (record { kept = kept; row = record { status = 16; lifted = 0; redone = 0 } })
+  unfolding statusOf
+  refused-anchored h e = refused-with 16 (rw (lt-ltb x (vertices s) h, eq-eqb (getD (kept .anchored) x 0) 1 e)) (omega arith)

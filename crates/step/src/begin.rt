@@ -3,20 +3,21 @@ ghost use mathlib.Core.Path.{_≡_};
 ghost use mathlib.Core.List.{[]};
 ghost use Prim.Native.Nat.{_≤_};
 ghost use lib.ListN.{length};
+ghost use Rattle.finite.specs.Moments.{old, final};
 ghost use Rattle.table.specs.Table.{vertices};
 ghost use Rattle.anchored.specs.Core.{level as levelOf};
 ghost use Rattle.anchored.specs.Core.{layer as layerOf};
 ghost use Rattle.anchored.specs.Followers.{followerCount};
 ghost use Rattle.shells.specs.Input.{graphOf, anchoredBy, Admitted};
 ghost use Rattle.shells.specs.Arrays.{Holds};
-ghost use Rattle.step.specs.Record.{Right};
-ghost use Rattle.step.specs.Rows.{Copied, Stands, sessionOf};
+ghost use Rattle.step.specs.Record.{Keeps, sessionOf};
+ghost use Rattle.step.specs.Rows.{Copied};
 use super::record::Record;
 
 // The given bytes, with zeros after them.
 fn pad(given: &[u8], anchored: &mut [u8; 1024])
     requires { ⌜ length (now given) ≤ 1024 ⌝ }
-    ensures { λ _. ⌜ Copied (now (given .entry)) (now (anchored .exit)) ⌝ }
+    ensures { λ _. ⌜ Copied (old given) (final anchored) ⌝ }
 {
     *anchored = [0; 1024];
     let mut v: usize = 0;
@@ -39,7 +40,9 @@ fn count_rows(
     requires { ⌜ Holds (now level) (vertices (now starts)) (levelOf (graphOf (now starts) (now links)) (anchoredBy (now anchored))) ⌝ }
     requires { ⌜ Holds (now layer) (vertices (now starts)) (layerOf (graphOf (now starts) (now links)) (anchoredBy (now anchored))) ⌝ }
     requires { ⌜ length (now followers) ≡ 1024 ⌝ }
-    ensures { λ _. ⌜ (length (now (followers .exit)) ≡ 1024) × Holds (now (followers .exit)) (vertices (now (starts .entry))) (followerCount (graphOf (now (starts .entry)) (now (links .entry))) (anchoredBy (now (anchored .entry)))) ⌝ }
+    ensures { λ _.
+        let counts = followerCount (graphOf (old starts) (old links)) (anchoredBy (old anchored)) in
+        ⌜ (length (final followers) ≡ 1024) × Holds (final followers) (vertices (old starts)) counts ⌝ }
 {
     let n = starts.len() - 1;
     let mut v: usize = 0;
@@ -53,29 +56,18 @@ fn count_rows(
 pub fn begin(starts: &[u16], links: &[u16], given: &[u8]) -> Record
     requires { ⌜ Admitted (now starts) (now links) (now given) ⌝ }
     requires { ⌜ length (now given) ≡ vertices (now starts) ⌝ }
-    ensures right { λ r. ⌜ Right (now (starts .entry)) (now (links .entry)) (r .anchored) (r .level) (r .layer) (r .component) (r .followers) ⌝ }
-    ensures stands { λ r. ⌜ Stands (vertices (now (starts .entry))) (r .anchored) (r .stamp) (sessionOf (now (starts .entry)) (now (links .entry)) (now (given .entry)) [] 0) ⌝ }
+    ensures { λ r. ⌜ Keeps (old starts) (old links) r (sessionOf (old starts) (old links) (old given) [] 0) ⌝ }
 {
     let mut anchored = [0u8; 1024];
     pad(given, &mut anchored);
-    let mut level = [0u16; 1024];
-    let mut layer = [0u16; 1024];
-    let mut component = [0u16; 1024];
-    super::afresh::refresh(
-        starts,
-        links,
-        &anchored,
-        &mut level,
-        &mut layer,
-        &mut component,
-    );
+    let columns = super::afresh::refresh(starts, links, &anchored);
+    let level = columns.level;
+    let layer = columns.layer;
     let mut followers = [0u16; 1024];
     count_rows(starts, links, &anchored, &level, &layer, &mut followers);
     Record {
         anchored,
-        level,
-        layer,
-        component,
+        columns,
         followers,
         stamp: [0; 1024],
     }

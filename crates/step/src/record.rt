@@ -1,10 +1,9 @@
 // The record that a session keeps: scratch arrays, of which the first n places count.
+use stale::Columns;
 
 pub struct Record {
     pub anchored: [u8; 1024],
-    pub level: [u16; 1024],
-    pub layer: [u16; 1024],
-    pub component: [u16; 1024],
+    pub columns: Columns,
     pub followers: [u16; 1024],
     pub stamp: [u16; 1024],
 }
@@ -18,6 +17,6 @@ pub struct Row {
 
 // What a request leaves.
 pub struct Stepped {
-    pub record: Record,
+    pub kept: Record,
     pub row: Row,
 }

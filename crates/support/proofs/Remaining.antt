@@ -23,8 +23,9 @@ use Rattle.anchored.proofs.Candidates.{follower-candidate, candidate-free}
 use Rattle.anchored.proofs.Support.{supports, supports-mono, struck-out, settled}
 use Rattle.shells.specs.Input.{graphOf, anchoredBy}
 use Rattle.shells.specs.Arrays.{Holds}
+use Rattle.shells.specs.Sheet.{Leveled}
 use Rattle.shells.proofs.Laws.{simple}
-use Rattle.candidates.specs.Reaching.{Sheet, alike}
+use Rattle.candidates.specs.Reaching.{alike}
 use Rattle.support.specs.Striking.{supportsOf, State, out, gone, lossOf, Settled}
 use Rattle.support.proofs.Striking.{out-length}
 
@@ -35,7 +36,7 @@ mark-is true false f = absurd (f tt)
 mark-is false true f = refl
 mark-is false false f = refl
 
-module _ (s l a levels layers : List ℕ) (h : Sheet s l a levels layers) (x : ℕ) where
+module _ {s l a levels : List ℕ} (leveled : Leveled s l a levels) (x : ℕ) where
   abbrev G : Graph
   G = graphOf s l
 
@@ -46,17 +47,17 @@ module _ (s l a levels layers : List ℕ) (h : Sheet s l a levels layers) (x : �
   lev = level G A
 
   L : Simple G
-  L = simple s l (h .admitted .table)
+  L = simple (leveled .admitted .table)
 
   -- support counted over the sheet, in any set
   supports-is : (M N : ℕ → Bool) (v p : ℕ) → v < vertices s → p < vertices s → M p ≡ N p → supportsOf a levels M x v p ≡ supports G A x N v p
   unfolding supportsOf
-  supports-is M N v p bv bp e = rw (h .levels-hold v bv, h .levels-hold p bp, e)
+  supports-is M N v p bv bp e = rw (leveled .hold v bv, leveled .hold p bp, e)
 
   pub support-is : (M N : ℕ → Bool) (v : ℕ) → v < vertices s → ((p : ℕ) → M p ≡ N p) → count (supportsOf a levels M x v) (neighbors s l v) ≡ count (supports G A x N v) (neighbors s l v)
   support-is M N v b e = count-cong (supportsOf a levels M x v) (supports G A x N v) (neighbors s l v) (λ p i. supports-is M N v p b (L .range v p b i) (e p))
 
-  module _ (C : ℕ → Bool) (is : (v : ℕ) → C v ≡ has (candidates G A x) v) where
+  module _ {C : ℕ → Bool} (is : (v : ℕ) → C v ≡ has (candidates G A x) v) where
     candidate : (v : ℕ) → T (C v) → T (has (candidates G A x) v)
     candidate v t = subst T (is v) t
 
@@ -72,7 +73,7 @@ module _ (s l a levels layers : List ℕ) (h : Sheet s l a levels layers) (x : �
       level-same : (p : ℕ) → p < vertices s → T (gone levels z v p) → T (eqb (lev p) (lev v))
       level-same p bp t =
           let e : T (alike levels p v) = and-r (member p z) _ t in
-          rw (h .levels-hold p bp, h .levels-hold v b) at e
+          rw (leveled .hold p bp, leveled .hold v b) at e
 
       gone-candidate : (p : ℕ) → T (gone levels z v p) → T (C p)
       gone-candidate p t = within p (member-e p z (and-l (member p z) _ t))
@@ -83,7 +84,7 @@ module _ (s l a levels layers : List ℕ) (h : Sheet s l a levels layers) (x : �
           (λ o. or-l (supports G A x (without z) v p) _ (or-l (outside v p) _ o))
           (λ o. split (member p z)
           (λ m. or-r (supports G A x (without z) v p) _ (and-i (member p z) _ m
-          (let e : T (eqb (lev p) (lev v)) = and-r (C p) _ o in rw (h .levels-hold p bp, h .levels-hold v b) e)))
+          (let e : T (eqb (lev p) (lev v)) = and-r (C p) _ o in rw (leveled .hold p bp, leveled .hold v b) e)))
           (λ m. or-l (supports G A x (without z) v p) _ (or-r (outside v p) _ (and-i (without z p) _ (and-i (C p) _ (and-l (C p) _ o) m) (and-r (C p) _ o))))))
           (λ t. or-e (supports G A x (without z) v p) _ t
           (supports-mono G L A x (without z) C v p (and-l (C p) _))
@@ -102,7 +103,7 @@ module _ (s l a levels layers : List ℕ) (h : Sheet s l a levels layers) (x : �
           count-cong (supports G A x C v) (λ p. supports G A x (without z) v p || gone levels z v p) (neighbors s l v) (λ p i. whole p (L .range v p b i))
           ∙ count-union (supports G A x (without z) v) (gone levels z v) (neighbors s l v) (λ p i. apart p (L .range v p b i))
 
-    module _ (S : ℕ → ℕ) (counted : (v : ℕ) → T (C v) → S v ≡ count (supports G A x C v) (neighbors s l v)) (st : State) (k : Settled s l levels S C st) where
+    module _ {S : ℕ → ℕ} (counted : (v : ℕ) → T (C v) → S v ≡ count (supports G A x C v) (neighbors s l v)) {st : State} (k : Settled s l levels S C st) where
       abbrev z : List ℕ
       z = out st
 
@@ -120,7 +121,7 @@ module _ (s l a levels layers : List ℕ) (h : Sheet s l a levels layers) (x : �
           struck-out G L A x (without (take i z))
           (λ p bp f. and-i (C p) _ (subst T (sym (is p)) (follower-candidate G L A x p bp f)) (not-T (member p (take i z)) (λ m. T-not (follows G A x p) (none-follows i (omega arith) p (member-e p (take i z) m)) f)))
           v bv
-          (omega (arith, counted v c, support-split (take i z) before v bv, h .levels-hold v bv)))
+          (omega (arith, counted v c, support-split (take i z) before v bv, leveled .hold v bv)))
           (in-take-more z i v b .0 (subst (λ m. In v (take m z)) (sym (add-one i)) j))
 
       -- what remains are the followers
@@ -130,7 +131,7 @@ module _ (s l a levels layers : List ℕ) (h : Sheet s l a levels layers) (x : �
           (λ w b t.
           let c = and-l (C w) _ t in
           let enough = k .enough w c (λ i. T-not (member w z) (and-r (C w) _ t) (member-i w z i)) in
-          omega (arith, counted w c, support-split z (k .listed .within) w b, h .levels-hold w b))
+          omega (arith, counted w c, support-split z (k .listed .within) w b, leveled .hold w b))
           (λ v b f. and-i (C v) _ (subst T (sym (is v)) (follower-candidate G L A x v b f)) (not-T (member v z) (λ m.
           T-not (follows G A x v) (none-follows (length z) (omega arith) v (subst (In v) (sym (take-all (length z) z (omega arith))) (member-e v z m))) f)))
 
@@ -156,4 +157,4 @@ module _ (s l a levels layers : List ℕ) (h : Sheet s l a levels layers) (x : �
           let both = count-union (follows G A x) (λ v. member v z) (below (vertices s)) (λ v i t.
           let r : T (C v && not (member v z)) = subst T (sym (remaining v (in-below (vertices s) v .0 i))) t in and-r (C v) _ r) in
           let listed = count-listed (λ v. member v z) (vertices s) z (k .listed .distinct) (λ v i. (k .listed .small v (k .listed .within v i), member-i v z i)) (λ v b t. member-e v z t) in
-          omega (arith, out-length (vertices s) C st (k .listed))
+          omega (arith, out-length (k .listed))

@@ -33,7 +33,7 @@ mark-some true c f = sym (true-of c (f tt))
 mark-some false true f = refl
 mark-some false false f = refl
 
-module _ (n : ℕ) (C : ℕ → Bool) (st : State) (k : Listed n C st) where
+module _ {n : ℕ} {C : ℕ → Bool} {st : State} (k : Listed n C st) where
   -- there are `end` of them, no more than n
   pub out-length : length (out st) ≡ st .end
   out-length = length-take-le (st .end) (st .struck) (k .room)
@@ -98,6 +98,24 @@ module _ (n : ℕ) (C : ℕ → Bool) (st : State) (k : Listed n C st) where
           rw m (getD-set-other (st .marks) v w 1 0 (neqb w v t) ∙ k .marked w)));
     }
 
+  -- the one at place `head`
+  module _ (head : ℕ) (waits : head < st .end) where
+    abbrev here : ℕ
+    here = getD (st .struck) head 0
+
+    here-place : getD (out st) head 0 ≡ here
+    here-place = getD-take (st .end) (st .struck) head 0 waits
+
+    -- is a vertex
+    pub here-vertex : here < n
+    here-vertex = k .small here (k .within here (subst (λ z. In z (out st)) here-place (in-at (out st) head 0 (omega (arith, out-length)))))
+
+    -- and does not stand before that place
+    here-new : In here (take head (st .struck)) → ⊥
+    here-new i =
+        let front : take head (out st) ≡ take head (st .struck) = take-take head (st .end) (st .struck) (omega arith) in
+        distinct-before (out st) head (k .distinct) (omega (arith, out-length)) (rw (here-place, front) i)
+
 -- ---- cases of a step
 
 strike-by : (P : State → Type 0) (levels : List ℕ) (v : ℕ) (st : State) → (getD levels v 0 < getD (st .support) v 0 → P st) → (getD (st .support) v 0 ≤ getD levels v 0 → P (cross v st))
@@ -149,10 +167,10 @@ pub record Weighing (n : ℕ) (levels : List ℕ) (S : ℕ → ℕ) (q : List �
   pub strong : (v : ℕ) → In v (take i q) → (In v (out st) → ⊥) → getD levels v 0 < S v
 
 -- none weighed
-pub weigh-start : (n : ℕ) (levels : List ℕ) (S : ℕ → ℕ) (marks queue support struck : List ℕ) (tail : ℕ) → Queued n marks queue tail → n ≤ length support → n ≤ length struck
+pub weigh-start : {n : ℕ} {levels : List ℕ} {S : ℕ → ℕ} {marks queue support struck : List ℕ} {tail : ℕ} → Queued n marks queue tail → n ≤ length support → n ≤ length struck
     → Weighing n levels S (take tail queue) 0 (state marks support struck 0)
 unfolding Rattle.finite.specs.Search.any
-weigh-start n levels S marks queue support struck tail k a b = record {
+weigh-start {queue = queue} {tail = tail} k a b = record {
   listed = record {
     marks-long = k .long;
     support-long = a;
@@ -169,7 +187,7 @@ weigh-start n levels S marks queue support struck tail k a b = record {
   strong = λ v i. absurd i;
 }
 
-module _ (n : ℕ) (levels : List ℕ) (S : ℕ → ℕ) (q : List ℕ) (i : ℕ) (st : State) (k : Weighing n levels S q i st) where
+module _ {n : ℕ} {levels : List ℕ} {S : ℕ → ℕ} {q : List ℕ} {i : ℕ} {st : State} (k : Weighing n levels S q i st) where
   -- one more weighed, and struck out if its support does not exceed its level
   pub weigh-next : Distinct q → i < length q → (v : ℕ) → getD q i 0 ≡ v → Weighing n levels S q (i + 1) (strikeOf levels v (store v (S v) st))
   weigh-next d h v e =
@@ -181,8 +199,8 @@ module _ (n : ℕ) (levels : List ℕ) (S : ℕ → ℕ) (q : List ℕ) (i : ℕ
       let counts : (w : ℕ) → In w (take (i + 1) q) → getD (set (st .support) v (S v)) w 0 ≡ S w = λ w j. split (eqb w v)
       (λ t. let z : w ≡ v = eqb→eq w v t in rw z here)
       (λ t. getD-set-other (st .support) v w (S v) 0 (neqb w v t) ∙ k .counted w (⊎-elim (λ y. y) (λ z. absurd (neqb w v t z)) (more w j))) in
-      let l = listed-store n (λ w. member w q) st (k .listed) v (S v) in
-      let z = cross-list n (λ w. member w q) (store v (S v) st) l v c f in
+      let l = listed-store (k .listed) v (S v) in
+      let z = cross-list l v c f in
       strike-by (Weighing n levels S q (i + 1)) levels v (store v (S v) st)
       (λ g. record {
         listed = l;
@@ -192,7 +210,7 @@ module _ (n : ℕ) (levels : List ℕ) (S : ℕ → ℕ) (q : List ℕ) (i : ℕ
         strong = λ w j o. ⊎-elim (λ y. k .strong w y o) (λ y. rw y (omega arith)) (more w j);
       })
       (λ g. record {
-        listed = listed-cross n (λ w. member w q) (store v (S v) st) l v c f;
+        listed = listed-cross l v c f;
         seen = λ w j. ⊎-elim (λ y. before w (k .seen w y)) (⊎-elim (λ y. in-take-more q i w h .1 (inr (y ∙ sym e))) (λ y. absurd y)) (in-append (out st) (v ∷ []) w .0 (rw z at j));
         counted = counts;
         weak = λ w j. ⊎-elim (k .weak w) (⊎-elim (λ y. rw y (omega arith)) (λ y. absurd y)) (in-append (out st) (v ∷ []) w .0 (rw z at j));
@@ -206,12 +224,12 @@ module _ (n : ℕ) (levels : List ℕ) (S : ℕ → ℕ) (q : List ℕ) (i : ℕ
   pub weigh-room : Distinct q → i < length q → st .end < n
   weigh-room d h =
       let v = getD q i 0 in
-      out-room n (λ w. member w q) st (k .listed) v (member-i v q (in-at q i 0 h)) (λ j. distinct-before q i d h (k .seen v j))
+      out-room (k .listed) v (member-i v q (in-at q i 0 h)) (λ j. distinct-before q i d h (k .seen v j))
 
   -- all weighed
   pub weigh-end : length q ≤ i → Weighed n levels (marked (st .marks)) st
   weigh-end h =
-      let e : (v : ℕ) → marked (st .marks) v ≡ member v q = marked-all n (λ v. member v q) st (k .listed) in
+      let e : (v : ℕ) → marked (st .marks) v ≡ member v q = marked-all (k .listed) in
       let all : take i q ≡ q = take-all i q h in
       let inside : (v : ℕ) → T (marked (st .marks) v) → In v (take i q) = λ v t. rw all (member-e v q (subst T (e v) t)) in
       record {
@@ -231,7 +249,7 @@ module _ (n : ℕ) (levels : List ℕ) (S : ℕ → ℕ) (q : List ℕ) (i : ℕ
 
 -- ---- supporters lost
 
-module _ (s l levels : List ℕ) (table : SoundTable s l) where
+module _ {s l : List ℕ} (table : SoundTable s l) (levels : List ℕ) where
   abbrev loss : List ℕ → ℕ → ℕ
   loss = lossOf s l levels
 
@@ -269,6 +287,11 @@ module _ (s l levels : List ℕ) (table : SoundTable s l) where
   loss-mono d z v f = count-mono (gone levels d v) (gone levels z v) (neighbors s l v)
       (λ p i m. and-i (member p z) _ (member-i p z (f p (member-e p d (and-l (member p d) _ m)))) (and-r (member p d) _ m))
 
+  -- nothing is lost at the start
+  loss-none : (v : ℕ) → loss [] v ≡ 0
+  unfolding Rattle.finite.specs.Search.any
+  loss-none v = count-none (gone levels [] v) (neighbors s l v) (λ p i. tt)
+
   -- ---- an order of striking out
 
   ordered-snoc : (S : ℕ → ℕ) (z : List ℕ) (v : ℕ) → Ordered s l levels S z → S v ≤ getD levels v 0 + loss z v → Ordered s l levels S (z ++ v ∷ [])
@@ -294,13 +317,10 @@ pub record Striking (s l levels : List ℕ) (S : ℕ → ℕ) (C : ℕ → Bool)
 abbrev pub lostTo : List ℕ → List ℕ → List ℕ → List ℕ → ℕ → List ℕ → ℕ → ℕ
 lostTo s l levels d u seen v = lossOf s l levels d v + bit (member v seen && alike levels v u)
 
-module _ (s l levels : List ℕ) (table : SoundTable s l) (S : ℕ → ℕ) (C : ℕ → Bool) where
-  abbrev n : ℕ
-  n = vertices s
-
+module _ {s l : List ℕ} (table : SoundTable s l) {levels : List ℕ} {S : ℕ → ℕ} {C : ℕ → Bool} where
   -- the same losses, said otherwise
-  lost-as : (lost lost₁ : ℕ → ℕ) (st : State) → ((v : ℕ) → T (C v) → lost₁ v ≡ lost v) → Striking s l levels S C lost st → Striking s l levels S C lost₁ st
-  lost-as lost lost₁ st e k = record {
+  lost-as : {lost : ℕ → ℕ} (lost₁ : ℕ → ℕ) {st : State} → ((v : ℕ) → T (C v) → lost₁ v ≡ lost v) → Striking s l levels S C lost st → Striking s l levels S C lost₁ st
+  lost-as lost₁ e k = record {
     listed = k .listed;
     ordered = k .ordered;
     counted = λ v c f. omega (arith, k .counted v c f, e v c);
@@ -308,23 +328,22 @@ module _ (s l levels : List ℕ) (table : SoundTable s l) (S : ℕ → ℕ) (C :
   }
 
   -- w loses the supporter u, if it is of its level
-  module _ (lost lost₁ : ℕ → ℕ) (u w : ℕ) (st : State)
+  module _ {lost : ℕ → ℕ} {st : State} (k : Striking s l levels S C lost st) (lost₁ : ℕ → ℕ) (u w : ℕ)
       (rest : (v : ℕ) → (v ≡ w → ⊥) → lost₁ v ≡ lost v)
       (other : (getD levels w 0 ≡ getD levels u 0 → ⊥) → lost₁ w ≡ lost w)
       (more : getD levels w 0 ≡ getD levels u 0 → lost₁ w ≡ lost w + 1)
-      (most : lost₁ w ≤ lossOf s l levels (out st) w)
-      (k : Striking s l levels S C lost st) where
+      (most : lost₁ w ≤ lossOf s l levels (out st) w) where
     -- it is counted off, and w struck out if too little is left
     weaken-keeps : Striking s l levels S C lost₁ (weakenOf levels u w st)
     weaken-keeps = weaken-by (Striking s l levels S C lost₁) levels u w st
         (λ m e.
-        let alive = still-in n C st (k .listed) w m in
+        let alive = still-in (k .listed) w m in
         let c = alive .0 in
         let f = alive .1 in
         let less = getD (st .support) w 0 - 1 in
         let here : getD (set (st .support) w less) w 0 ≡ less = getD-set-same (st .support) w less 0 (omega (arith, k .listed .support-long, k .listed .small w c)) in
-        let listed = listed-store n C st (k .listed) w less in
-        let crossed = cross-list n C (store w less st) listed w c f in
+        let listed = listed-store (k .listed) w less in
+        let crossed = cross-list listed w c f in
         let counts : (v : ℕ) → T (C v) → (In v (out st) → ⊥) → getD (set (st .support) w less) v 0 + lost₁ v ≡ S v = λ v a o. split (eqb v w)
         (λ t. let z : v ≡ w = eqb→eq v w t in rw z (omega (arith, here, k .counted w c f, k .strong w c f, more e)))
         (λ t. omega (arith, getD-set-other (st .support) w v less 0 (neqb v w t), k .counted v a o, rest v (neqb v w t))) in
@@ -340,8 +359,8 @@ module _ (s l levels : List ℕ) (table : SoundTable s l) (S : ℕ → ℕ) (C :
         (λ g.
         let old : (v : ℕ) → (In v (out (cross w (store w less st))) → ⊥) → In v (out st) → ⊥ = λ v o i. o (rw crossed (in-append (out st) (w ∷ []) v .1 (inl i))) in
         record {
-          listed = listed-cross n C (store w less st) listed w c f;
-          ordered = rw crossed (ordered-snoc s l levels table S (out st) w (k .ordered) (omega (arith, counts w c f, most)));
+          listed = listed-cross listed w c f;
+          ordered = rw crossed (ordered-snoc table levels S (out st) w (k .ordered) (omega (arith, counts w c f, most)));
           counted = λ v a o. counts v a (old v o);
           strong = λ v a o. elsewhere v a (old v o) (not-T (eqb v w) (λ t. o (rw crossed (in-append (out st) (w ∷ []) v .1 (inr (inl (eqb→eq v w t)))))));
         }))
@@ -351,58 +370,44 @@ module _ (s l levels : List ℕ) (table : SoundTable s l) (S : ℕ → ℕ) (C :
           counted = λ v c f. split (eqb v w)
               (λ t.
               let z : v ≡ w = eqb→eq v w t in
-              let is-in = in-still n C st (k .listed) v c f in
+              let is-in = in-still (k .listed) v c f in
               let same-loss = other (λ e. no (rw z at is-in) e) in
               omega (arith, k .counted v c f, ap lost z, ap lost₁ z))
               (λ t. omega (arith, k .counted v c f, rest v (neqb v w t)));
           strong = k .strong;
         })
 
-  -- nothing is counted off at the start
-  loss-none : (v : ℕ) → lossOf s l levels [] v ≡ 0
-  unfolding Rattle.finite.specs.Search.any
-  loss-none v = count-none (gone levels [] v) (neighbors s l v) (λ p i. tt)
-
   -- ---- one struck out is withdrawn from its neighbors
 
-  abbrev lostBy : List ℕ → ℕ → List ℕ → ℕ → ℕ
-  lostBy = lostTo s l levels
+  module _ {first : State} (head : ℕ) (begun : Striking s l levels S C (lossOf s l levels (take head (first .struck))) first) (waits : head < first .end) where
+    abbrev held : Listed (vertices s) C first
+    held = begun .listed
 
-  module _ (first : State) (held : Listed n C first) (head : ℕ) (waits : head < first .end) where
     abbrev u : ℕ
     u = getD (first .struck) head 0
 
     abbrev d : List ℕ
     d = take head (first .struck)
 
-    first-place : getD (out first) head 0 ≡ u
-    first-place = getD-take (first .end) (first .struck) head 0 waits
+    abbrev lostBy : List ℕ → ℕ → ℕ
+    lostBy = lostTo s l levels d u
 
-    first-in : In u (out first)
-    first-in = subst (λ z. In z (out first)) first-place (in-at (out first) head 0 (omega (arith, out-length n C first held)))
-
-    -- the one to withdraw is a vertex
-    pub first-vertex : u < n
-    first-vertex = held .small u (held .within u first-in)
-
-    first-new : In u d → ⊥
-    first-new i =
-        let front : take head (out first) ≡ d = take-take head (first .end) (first .struck) (omega arith) in
-        distinct-before (out first) head (held .distinct) (omega (arith, out-length n C first held)) (rw (first-place, front) i)
+    bu : u < vertices s
+    bu = here-vertex held head waits
 
     front-list : take (head + 1) (first .struck) ≡ d ++ u ∷ []
     front-list = rw add-one (take-suc (first .struck) head 0 (omega (arith, held .room)))
 
     -- no neighbor has lost it
-    pub withdraw-start : Striking s l levels S C (lossOf s l levels d) first → Striking s l levels S C (lostBy d u (take 0 (neighbors s l u))) first
+    pub withdraw-start : Striking s l levels S C (lostBy (take 0 (neighbors s l u))) first
     unfolding Rattle.finite.specs.Search.any
-    withdraw-start k = lost-as (lossOf s l levels d) (lostBy d u []) first (λ v c. omega (arith, bit-no (member v [] && alike levels v u) tt)) k
+    withdraw-start = lost-as (lostBy []) (λ v c. omega (arith, bit-no (member v [] && alike levels v u) tt)) begun
 
     -- those before the place of u, and u, stay where they are
     abbrev Front : State → Type 0
     Front st = (head < st .end) × (take (head + 1) (st .struck) ≡ take (head + 1) (first .struck))
 
-    module _ (st : State) (front : Front st) (j : ℕ) (inside : j < length (neighbors s l u)) where
+    module _ (j : ℕ) (inside : j < length (neighbors s l u)) where
       abbrev w : ℕ
       w = getD (neighbors s l u) j 0
 
@@ -412,15 +417,15 @@ module _ (s l levels : List ℕ) (table : SoundTable s l) (S : ℕ → ℕ) (C :
       abbrev seen₁ : List ℕ
       seen₁ = take (j + 1) (neighbors s l u)
 
-      bw : w < n
-      bw = table .range u w first-vertex (in-at (neighbors s l u) j 0 inside)
+      bw : w < vertices s
+      bw = table .range u w bu (in-at (neighbors s l u) j 0 inside)
 
-      rest : (v : ℕ) → (v ≡ w → ⊥) → lostBy d u seen₁ v ≡ lostBy d u seen v
+      rest : (v : ℕ) → (v ≡ w → ⊥) → lostBy seen₁ v ≡ lostBy seen v
       rest v f = ap (λ b. lossOf s l levels d v + bit (b && alike levels v u)) (same (member v seen₁) (member v seen)
           (λ t. member-i v seen (⊎-elim (λ i. i) (λ e. absurd (f e)) (in-take-more (neighbors s l u) j v inside .0 (member-e v seen₁ t))))
           (λ t. member-i v seen₁ (in-take-more (neighbors s l u) j v inside .1 (inl (member-e v seen t)))))
 
-      other : (getD levels w 0 ≡ getD levels u 0 → ⊥) → lostBy d u seen₁ w ≡ lostBy d u seen w
+      other : (getD levels w 0 ≡ getD levels u 0 → ⊥) → lostBy seen₁ w ≡ lostBy seen w
       other f =
           let no = not-T (alike levels w u) (λ t. f (eqb→eq (getD levels w 0) (getD levels u 0) t)) in
           omega (
@@ -433,41 +438,41 @@ module _ (s l levels : List ℕ) (table : SoundTable s l) (S : ℕ → ℕ) (C :
       now-seen = in-take-more (neighbors s l u) j w inside .1 (inr refl)
 
       not-seen : In w seen → ⊥
-      not-seen = distinct-before (neighbors s l u) j (table .distinct u first-vertex) inside
+      not-seen = distinct-before (neighbors s l u) j (table .distinct u bu) inside
 
-      more : getD levels w 0 ≡ getD levels u 0 → lostBy d u seen₁ w ≡ lostBy d u seen w + 1
+      more : getD levels w 0 ≡ getD levels u 0 → lostBy seen₁ w ≡ lostBy seen w + 1
       more e = omega (
         arith,
         bit-yes (member w seen₁ && alike levels w u) (and-i (member w seen₁) _ (member-i w seen₁ now-seen) (eqb-of (getD levels w 0) (getD levels u 0) e)),
         bit-no (member w seen && alike levels w u) (not-T (member w seen && alike levels w u) (λ t. not-seen (member-e w seen (and-l (member w seen) _ t)))),
       )
 
-      most : lostBy d u seen₁ w ≤ lossOf s l levels (out st) w
-      most =
-          let all = loss-snoc s l levels table d u w first-vertex bw first-new in
+      most : (st : State) → Front st → lostBy seen₁ w ≤ lossOf s l levels (out st) w
+      most st front =
+          let all = loss-snoc table levels d u w bu bw (here-new held head waits) in
           let part = bit-mono (member w seen₁ && alike levels w u) (member w (neighbors s l u) && alike levels w u)
           (λ t. and-i (member w (neighbors s l u)) _ (member-i w (neighbors s l u) (in-take (neighbors s l u) (j + 1) w (member-e w seen₁ (and-l (member w seen₁) _ t)))) (and-r (member w seen₁) _ t)) in
           let at : take (head + 1) (out st) ≡ d ++ u ∷ [] = take-take (head + 1) (st .end) (st .struck) (omega (arith, front .0)) ∙ front .1 ∙ front-list in
-          let mono = loss-mono s l levels table (d ++ u ∷ []) (out st) w (λ p i. in-take (out st) (head + 1) p (rw at i)) in
+          let mono = loss-mono table levels (d ++ u ∷ []) (out st) w (λ p i. in-take (out st) (head + 1) p (rw at i)) in
           omega arith
 
       -- its neighbor w loses it
-      pub withdraw-next : Striking s l levels S C (lostBy d u seen) st → Striking s l levels S C (lostBy d u seen₁) (weakenOf levels u w st)
-      withdraw-next k = weaken-keeps (lostBy d u seen) (lostBy d u seen₁) u w st rest other more most k
+      pub withdraw-next : {st : State} → Front st → Striking s l levels S C (lostBy seen) st → Striking s l levels S C (lostBy seen₁) (weakenOf levels u w st)
+      withdraw-next {st} front k = weaken-keeps k (lostBy seen₁) u w rest other more (most st front)
 
     -- all its neighbors have lost it
-    pub withdraw-end : (st : State) → Front st → (j : ℕ) → length (neighbors s l u) ≤ j → Striking s l levels S C (lostBy d u (take j (neighbors s l u))) st
+    pub withdraw-end : {st : State} → Front st → (j : ℕ) → length (neighbors s l u) ≤ j → Striking s l levels S C (lostBy (take j (neighbors s l u))) st
         → Striking s l levels S C (lossOf s l levels (take (head + 1) (st .struck))) st
-    withdraw-end st front j h k =
+    withdraw-end {st} front j h k =
         let all : take j (neighbors s l u) ≡ neighbors s l u = take-all j (neighbors s l u) h in
         let at : take (head + 1) (st .struck) ≡ d ++ u ∷ [] = front .1 ∙ front-list in
-        rw at (lost-as (lostBy d u (neighbors s l u)) (lossOf s l levels (d ++ u ∷ [])) st (λ v c. loss-snoc s l levels table d u v first-vertex (held .small v c) first-new) (rw all at k))
+        rw at (lost-as (lossOf s l levels (d ++ u ∷ [])) (λ v c. loss-snoc table levels d u v bu (held .small v c) (here-new held head waits)) (rw all at k))
 
   -- ---- from the weighed to the settled
 
   -- all withdrawn: the others keep enough
-  pub settle-end : (st : State) (head : ℕ) → head ≤ st .end → st .end ≤ head → Striking s l levels S C (lossOf s l levels (take head (st .struck))) st → Settled s l levels S C st
-  settle-end st head a b k =
+  pub settle-end : {st : State} (head : ℕ) → head ≤ st .end → st .end ≤ head → Striking s l levels S C (lossOf s l levels (take head (st .struck))) st → Settled s l levels S C st
+  settle-end {st} head a b k =
       let e : head ≡ st .end = omega arith in
       let k₁ : Striking s l levels S C (lossOf s l levels (out st)) st = rw e at k in
       record {
@@ -477,10 +482,10 @@ module _ (s l levels : List ℕ) (table : SoundTable s l) (S : ℕ → ℕ) (C :
       }
 
 -- weighed, and nobody withdrawn
-pub settle-start : (s l levels : List ℕ) → SoundTable s l → (C : ℕ → Bool) (st : State) → Weighed (vertices s) levels C st → Striking s l levels (λ v. getD (st .support) v 0) C (lossOf s l levels []) st
-settle-start s l levels table C st k = record {
+pub settle-start : {s l : List ℕ} → SoundTable s l → {levels : List ℕ} {C : ℕ → Bool} {st : State} → Weighed (vertices s) levels C st → Striking s l levels (λ v. getD (st .support) v 0) C (lossOf s l levels []) st
+settle-start table {levels} {st = st} k = record {
   listed = k .listed;
   ordered = λ i h. omega (arith, k .weak (getD (out st) i 0) (in-at (out st) i 0 h));
-  counted = λ v c f. omega (arith, loss-none s l levels table (λ v. getD (st .support) v 0) C v);
+  counted = λ v c f. omega (arith, loss-none table levels v);
   strong = k .strong;
 }

@@ -2,10 +2,11 @@
 ghost use mathlib.Core.Path.{_≡_};
 ghost use Prim.Native.Nat.{ℕ, _≤_, _<_};
 ghost use lib.ListN.{length, getD, take};
+ghost use Rattle.finite.specs.Moments.{old, final};
 ghost use Rattle.finite.specs.Count.{count, In};
 ghost use Rattle.finite.specs.Search.{member};
 ghost use Rattle.table.specs.Table.{vertices, neighbors as neighborsOf, SoundTable};
-ghost use Rattle.shells.specs.Input.{Admitted};
+ghost use Rattle.shells.specs.Sheet.{Leveled};
 ghost use Rattle.candidates.specs.Reaching.{Queued};
 ghost use Rattle.support.specs.Striking.{supportsOf, marked, state, strikeOf, weakenOf, Weighed, Settled};
 use shells::pair::is_higher;
@@ -23,13 +24,15 @@ pub fn weigh(
     support: &mut [u16; 1024],
     struck: &mut [u16; 1024],
 ) -> usize
-    requires { ⌜ Admitted (now starts) (now links) (now anchored) ⌝ }
-    requires { ⌜ vertices (now starts) ≤ length (now levels) ⌝ }
+    requires { ⌜ Leveled (now starts) (now links) (now anchored) (now levels) ⌝ }
     requires { ⌜ Queued (vertices (now starts)) (now marks) (now queue) tail ⌝ }
     requires { ⌜ (vertices (now starts) ≤ length (now support)) × (vertices (now starts) ≤ length (now struck)) ⌝ }
-    ensures weighed { λ r. ⌜ Weighed (vertices (now (starts .entry))) (now (levels .entry)) (marked (now (marks .exit))) (state (now (marks .exit)) (now (support .exit)) (now (struck .exit)) r) ⌝ }
-    ensures candidates { λ _. ⌜ ((v : ℕ) → marked (now (marks .exit)) v ≡ member v (take tail (now (queue .entry)))) ⌝ }
-    ensures counted { λ _. ⌜ ((v : ℕ) → In v (take tail (now (queue .entry))) → getD (now (support .exit)) v 0 ≡ count (supportsOf (now (anchored .entry)) (now (levels .entry)) (λ p. member p (take tail (now (queue .entry)))) x v) (neighborsOf (now (starts .entry)) (now (links .entry)) v)) ⌝ }
+    ensures weighed { λ r. ⌜ Weighed (vertices (old starts)) (old levels) (marked (final marks)) (state (final marks) (final support) (final struck) r) ⌝ }
+    ensures candidates { λ _. ⌜ ((v : ℕ) → marked (final marks) v ≡ member v (take tail (old queue))) ⌝ }
+    ensures counted { λ _.
+        let reached = take tail (old queue) in
+        let supporters : ℕ → ℕ = λ v. count (supportsOf (old anchored) (old levels) (λ p. member p reached) x v) (neighborsOf (old starts) (old links) v) in
+        ⌜ ((v : ℕ) → In v reached → getD (final support) v 0 ≡ supporters v) ⌝ }
 {
     let mut end: usize = 0;
     let mut i: usize = 0;
@@ -52,10 +55,9 @@ fn count_supporters(
     x: usize,
     v: usize,
 ) -> u16
-    requires { ⌜ Admitted (now starts) (now links) (now anchored) ⌝ }
-    requires { ⌜ vertices (now starts) ≤ length (now levels) ⌝ }
+    requires { ⌜ Leveled (now starts) (now links) (now anchored) (now levels) ⌝ }
     requires { ⌜ v < vertices (now starts) ⌝ }
-    ensures { λ r. ⌜ r ≡ count (supportsOf (now (anchored .entry)) (now (levels .entry)) (marked (now (marks .entry))) x v) (neighborsOf (now (starts .entry)) (now (links .entry)) v) ⌝ }
+    ensures { λ r. ⌜ r ≡ count (supportsOf (old anchored) (old levels) (marked (old marks)) x v) (neighborsOf (old starts) (old links) v) ⌝ }
 {
     let part = table::neighbors(starts, links, v);
     let mut total: u16 = 0;
@@ -80,7 +82,7 @@ fn supports(
     requires { ⌜ p < length (now levels) ⌝ }
     requires { ⌜ v < length (now levels) ⌝ }
     requires { ⌜ p < 1024 ⌝ }
-    ensures { λ r. ⌜ r ≡ supportsOf (now (anchored .entry)) (now (levels .entry)) (marked (now (marks .entry))) x v p ⌝ }
+    ensures { λ r. ⌜ r ≡ supportsOf (old anchored) (old levels) (marked (old marks)) x v p ⌝ }
 {
     if anchored[p] == 1 {
         return true;
@@ -110,7 +112,7 @@ pub fn settle(
     requires { ⌜ SoundTable (now starts) (now links) ⌝ }
     requires { ⌜ vertices (now starts) ≤ length (now levels) ⌝ }
     requires { ⌜ Weighed (vertices (now starts)) (now levels) (marked (now marks)) (state (now marks) (now support) (now struck) weak) ⌝ }
-    ensures { λ r. ⌜ Settled (now (starts .entry)) (now (links .entry)) (now (levels .entry)) (λ v. getD (now (support .entry)) v 0) (marked (now (marks .entry))) (state (now (marks .exit)) (now (support .exit)) (now (struck .exit)) r) ⌝ }
+    ensures { λ r. ⌜ Settled (old starts) (old links) (old levels) (λ v. getD (old support) v 0) (marked (old marks)) (state (final marks) (final support) (final struck) r) ⌝ }
 {
     let mut end = weak;
     let mut head: usize = 0;
@@ -141,7 +143,7 @@ fn weaken(
     requires { ⌜ w < length (now levels) ⌝ }
     requires { ⌜ w < 1024 ⌝ }
     requires { ⌜ (getD (now marks) w 0 ≡ 2 → (0 < getD (now support) w 0) × (end < 1024)) ⌝ }
-    ensures { λ r. ⌜ state (now (marks .exit)) (now (support .exit)) (now (struck .exit)) r ≡ weakenOf (now (levels .entry)) u w (state (now (marks .entry)) (now (support .entry)) (now (struck .entry)) end) ⌝ }
+    ensures { λ r. ⌜ state (final marks) (final support) (final struck) r ≡ weakenOf (old levels) u w (state (old marks) (old support) (old struck) end) ⌝ }
 {
     if marks[w] != 2 {
         return end;
@@ -165,7 +167,7 @@ fn strike(
     requires { ⌜ v < length (now levels) ⌝ }
     requires { ⌜ v < 1024 ⌝ }
     requires { ⌜ end < 1024 ⌝ }
-    ensures { λ r. ⌜ state (now (marks .exit)) (now (support .entry)) (now (struck .exit)) r ≡ strikeOf (now (levels .entry)) v (state (now (marks .entry)) (now (support .entry)) (now (struck .entry)) end) ⌝ }
+    ensures { λ r. ⌜ state (final marks) (old support) (final struck) r ≡ strikeOf (old levels) v (state (old marks) (old support) (old struck) end) ⌝ }
 {
     if levels[v] < support[v] {
         return end;

@@ -14,9 +14,10 @@ use Rattle.finite.specs.Search.{ascending as ascends}
 use Rattle.finite.proofs.Count.{in-at, distinct-length}
 use Rattle.finite.proofs.Tests.{of-true, true-of, false-of, of-false, not-or}
 use Rattle.finite.proofs.Search.{not-any, member-i, member-e, none-any, first-none, first-le, none-of, ascending-distinct}
-use Rattle.table.specs.Table.{vertices, neighbors, wrongEnd, wrongStep, badStart, beyond, looped, unsorted, unreturned, refused, refuse, checkOf, Framed, SoundTable}
-use Rattle.table.specs.declared.Checked.{Checked}
-use Rattle.table.specs.declared.Checked.the-variants.{Sound}
+use Rattle.table.specs.Table.{vertices, neighbors, wrongEnd, wrongStep, badStart, beyond, looped, unsorted, unreturned, checkOf, Framed, SoundTable}
+use Rattle.table.specs.Guard.{refused, refuse}
+use Rattle.table.specs.declared.Guard.{Guard}
+use Rattle.table.specs.declared.Guard.the-variants.{Passed}
 
 module _ (s l : List ℕ) (some : 0 < length s) (none : NoneBelow (badStart s l) (length s)) where
   not-wrong : (i : ℕ) → i < length s → T (not (wrongEnd s l i)) × T (not (wrongStep s i))
@@ -77,11 +78,11 @@ module _ (s l : List ℕ) where
   sorted none v h = of-true (ascends (neighbors s l v)) (not-false (ascends (neighbors s l v)) (none v h))
 
 -- an answer that is sound went past each refusal, and past each search
-pub went-on : (b : Bool) (k p : ℕ) (rest : Checked) → cond b (refused k p) rest ≡ Sound → (b ≡ false) × (rest ≡ Sound)
+pub went-on : (b : Bool) (k p : ℕ) (rest : Guard) → cond b (refused k p) rest ≡ Passed → (b ≡ false) × (rest ≡ Passed)
 went-on true k p rest e = let z : _≡_ {A = ℕ} 0 1 = cc in absurd (omega arith)
 went-on false k p rest e = (refl, e)
 
-pub went-past : (k : ℕ) (p : ℕ → Bool) (n : ℕ) (rest : Checked) → refuse k p n rest ≡ Sound → NoneBelow p n × (rest ≡ Sound)
+pub went-past : (k : ℕ) (p : ℕ → Bool) (n : ℕ) (rest : Guard) → refuse k p n rest ≡ Passed → NoneBelow p n × (rest ≡ Passed)
 went-past k p n rest e =
     let r = went-on (ltb (first p n) n) k (first p n) rest e in
     (none-of p n (omega (arith, first-le p n, ltb-false (first p n) n (r .0))), r .1)
@@ -91,7 +92,7 @@ abbrev pub missing : List ℕ → List ℕ → ℕ → ℕ → Bool
 missing s l v u = not (member v (neighbors s l u))
 
 -- what the check promises
-pub sound : (s l : List ℕ) → checkOf s l ≡ Sound → SoundTable s l
+pub sound : (s l : List ℕ) → checkOf s l ≡ Passed → SoundTable s l
 unfolding checkOf looped unreturned
 sound s l e =
     let some = went-on _ _ _ _ e in
@@ -115,7 +116,7 @@ sound s l e =
     }
 
 -- a search whose result is below the end refuses there
-pub hit : (k : ℕ) (p : ℕ → Bool) (n : ℕ) (rest : Checked) {r : ℕ} → r ≡ first p n → r < n → refuse k p n rest ≡ refused k r
+pub hit : (k : ℕ) (p : ℕ → Bool) (n : ℕ) (rest : Guard) {r : ℕ} → r ≡ first p n → r < n → refuse k p n rest ≡ refused k r
 hit k p n rest found h = let t : ltb (first p n) n ≡ true = lt-ltb (first p n) n (omega arith) in rw (t, found)
 
 -- one whose result is not below the end found nothing
@@ -123,11 +124,11 @@ pub nothing : (p : ℕ → Bool) (n : ℕ) {r : ℕ} → r ≡ first p n → n �
 nothing p n found h = none-of p n (omega (arith, first-le p n))
 
 -- a search that finds nothing goes on to the next
-pub pass : (k : ℕ) (p : ℕ → Bool) (n : ℕ) (rest : Checked) → NoneBelow p n → refuse k p n rest ≡ rest
+pub pass : (k : ℕ) (p : ℕ → Bool) (n : ℕ) (rest : Guard) → NoneBelow p n → refuse k p n rest ≡ rest
 pass k p n rest none = let t : ltb (first p n) n ≡ false = le-ltb (first p n) n (omega (arith, first-none p n none)) in rw t
 
 -- the converse: a table without a bad start that keeps these promises is found sound
-pub found-sound : (s l : List ℕ) → NoneBelow (badStart s l) (length s) → SoundTable s l → checkOf s l ≡ Sound
+pub found-sound : (s l : List ℕ) → NoneBelow (badStart s l) (length s) → SoundTable s l → checkOf s l ≡ Passed
 unfolding checkOf beyond looped unsorted unreturned
 found-sound s l starts t =
     let some = ne-eqb (length s) 0 (λ e. omega (arith, t .framed .some)) in

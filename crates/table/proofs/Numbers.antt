@@ -2,43 +2,45 @@
 use mathlib.Core.Path.{_≡_, refl}
 use mathlib.Core.Bool.{Bool, true, false, cond}
 use mathlib.Core.List.{List}
-use Prim.Native.Nat.{ℕ, _≤_, _<_}
+use Prim.Native.Nat.{ℕ, _≤_}
 use native.Mathlib.Omega.{arith}
 use lib.ListN.{length}
 use lib.Dec.{ltb, eqb}
 use Rattle.finite.specs.Search.{first}
-use Rattle.table.specs.Table.{vertices, badStart, beyond, looped, unsorted, unreturned, refused, numberOf, refuse, checkOf}
+use Rattle.table.specs.Table.{vertices, badStart, beyond, looped, unsorted, unreturned, checkOf}
+use Rattle.table.specs.Guard.{refused, numberOf, refuse, answer, past}
 use Rattle.table.specs.declared.Refusal.{Refusal}
-use Rattle.table.specs.declared.Checked.{Checked}
-use Rattle.table.specs.declared.Checked.the-variants.{Sound, Refused}
+use Rattle.table.specs.declared.Guard.{Guard}
+use Rattle.table.specs.declared.Guard.the-variants.{Passed, Refused}
 
 -- a refusal has a number from low to high
-abbrev pub Between : ℕ → ℕ → Checked → Type 0
-Between low high answer = (r : Refusal) → answer ≡ Refused r → (low ≤ r .number) × (r .number ≤ high)
+abbrev pub Between : ℕ → ℕ → Guard → Type 0
+Between low high guard = (r : Refusal) → guard ≡ Refused r → (low ≤ r .number) × (r .number ≤ high)
 
 module _ (low high : ℕ) where
-  pub between-sound : Between low high Sound
+  pub between-sound : Between low high Passed
   between-sound r e = let z : _≡_ {A = ℕ} 0 1 = cc in absurd (omega arith)
 
   -- a refusal with such a number, or the rest
-  pub between-next : (b : Bool) (k p : ℕ) (rest : Checked) → low ≤ k → k ≤ high → Between low high rest → Between low high (cond b (refused k p) rest)
+  pub between-next : (b : Bool) (k p : ℕ) (rest : Guard) → low ≤ k → k ≤ high → Between low high rest → Between low high (cond b (refused k p) rest)
   between-next true k p rest above below later r e = let q : k ≡ r .number = cc in omega arith
   between-next false k p rest above below later r e = later r e
 
   -- the same for a search
-  pub between-found : (k : ℕ) (test : ℕ → Bool) (n : ℕ) (rest : Checked) → low ≤ k → k ≤ high → Between low high rest → Between low high (refuse k test n rest)
+  pub between-found : (k : ℕ) (test : ℕ → Bool) (n : ℕ) (rest : Guard) → low ≤ k → k ≤ high → Between low high rest → Between low high (refuse k test n rest)
   between-found k test n rest = between-next (ltb (first test n) n) k (first test n) rest
 
   -- one answer, and where it refuses nothing the rest
-  pub between-past : (answer rest : Checked) → Between low high answer → Between low high rest → Between low high (elim answer [ Sound ↦ rest | Refused r ↦ Refused r ])
-  between-past Sound rest before later = later
+  pub between-past : (guard rest : Guard) → Between low high guard → Between low high rest → Between low high (past guard rest)
+  unfolding answer
+  between-past Passed rest before later = later
   between-past (Refused r) rest before later = before
 
   pub between-check : (s l : List ℕ) → low ≤ 1 → 8 ≤ high → Between low high (checkOf s l)
   unfolding checkOf
   between-check s l from upto =
       let n = vertices s in
-      let eight = refuse 8 (unreturned s l) n Sound in
+      let eight = refuse 8 (unreturned s l) n Passed in
       let seven = refuse 7 (unsorted s l) n eight in
       let six = refuse 6 (looped s l) n seven in
       let five = refuse 5 (beyond s l) n six in
@@ -52,9 +54,9 @@ module _ (low high : ℕ) where
       (between-found 5 (beyond s l) n six (omega arith) (omega arith)
       (between-found 6 (looped s l) n seven (omega arith) (omega arith)
       (between-found 7 (unsorted s l) n eight (omega arith) (omega arith)
-      (between-found 8 (unreturned s l) n Sound (omega arith) (omega arith) between-sound)))))))
+      (between-found 8 (unreturned s l) n Passed (omega arith) (omega arith) between-sound)))))))
 
--- where no refusal has the number 0, an answer of that number refuses nothing
-pub zero-sound : (answer : Checked) (high : ℕ) → Between 1 high answer → numberOf answer ≡ 0 → answer ≡ Sound
-zero-sound Sound high range e = refl
+-- where no refusal has the number 0, a guard of that number refuses nothing
+pub zero-sound : (guard : Guard) (high : ℕ) → Between 1 high guard → numberOf guard ≡ 0 → guard ≡ Passed
+zero-sound Passed high range e = refl
 zero-sound (Refused r) high range e = absurd (omega (arith, range r refl .0))

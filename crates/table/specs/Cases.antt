@@ -5,18 +5,19 @@ use Prim.Native.Nat.{ℕ}
 use lib.ListN.{replicate}
 use Rattle.finite.specs.Count.{tabulate, below}
 use Rattle.finite.specs.Search.{any, all, firstFrom, first, ascending}
-use Rattle.table.specs.Table.{neighbors, badStart, beyond, looped, unsorted, unreturned, refused, checkOf}
-use Rattle.table.specs.declared.Checked.{Checked}
-use Rattle.table.specs.declared.Checked.the-variants.{Sound}
+use Rattle.table.specs.Table.{neighbors, badStart, beyond, looped, unsorted, unreturned, checkOf}
+use Rattle.table.specs.Guard.{refused}
+use Rattle.table.specs.declared.Guard.{Guard}
+use Rattle.table.specs.declared.Guard.the-variants.{Passed}
 
 -- the starts of a chain of four vertices
 abbrev chain : List ℕ
 chain = 0 ∷ 1 ∷ 3 ∷ 5 ∷ 6 ∷ []
 
--- Sound: a chain, a star, no vertices. 4: start 0 not 0, a start below the one before, the last not the number of links.
+-- Passed: a chain, a star, no vertices. 4: start 0 not 0, a start below the one before, the last not the number of links.
 -- 7: a fall, an equal pair. 6 at 3: the lowest number comes first, though vertex 0 breaks 7. 8: the place is the vertex, not the neighbor.
 answers :
-    _≡_ {A = List Checked}
+    _≡_ {A = List Guard}
     (checkOf chain (1 ∷ 0 ∷ 2 ∷ 1 ∷ 3 ∷ 2 ∷ [])
     ∷ checkOf (0 ∷ 3 ∷ 4 ∷ 5 ∷ 6 ∷ []) (1 ∷ 2 ∷ 3 ∷ 0 ∷ 0 ∷ 0 ∷ [])
     ∷ checkOf (0 ∷ []) []
@@ -34,9 +35,9 @@ answers :
     ∷ checkOf chain (1 ∷ 0 ∷ 3 ∷ 1 ∷ 3 ∷ 2 ∷ [])
     ∷ checkOf (0 ∷ 0 ∷ 1 ∷ []) (0 ∷ [])
     ∷ [])
-    (Sound
-    ∷ Sound
-    ∷ Sound
+    (Passed
+    ∷ Passed
+    ∷ Passed
     ∷ refused 1 0
     ∷ refused 2 0
     ∷ refused 3 0

@@ -1,3 +1,4 @@
+pub mod Guard
 pub mod Table
 pub mod Paired
 pub mod Cases

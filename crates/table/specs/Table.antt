@@ -1,14 +1,15 @@
--- The adjacency table: vertices (riders), their neighbors (partners), and the answer of its check.
+-- The adjacency table: vertices (riders), their neighbors (partners), and what its check refuses.
 use mathlib.Core.Bool.{Bool, cond, not, _&&_, _||_}
 use mathlib.Core.List.{List}
 use Prim.Native.Nat.{ℕ, _+_, _-_, _≤_, _<_}
 use lib.ListN.{length, take, drop, getD}
 use lib.Dec.{T, leb, ltb, eqb}
 use Rattle.finite.specs.Count.{In, Distinct}
-use Rattle.finite.specs.Search.{any, member, first}
+use Rattle.finite.specs.Search.{any, member}
 use Rattle.finite.specs.Search.{ascending as ascends}
-use Rattle.table.specs.declared.Checked.{Checked}
-use Rattle.table.specs.declared.Checked.the-variants.{Sound, Refused}
+use Rattle.table.specs.Guard.{refused, refuse}
+use Rattle.table.specs.declared.Guard.{Guard}
+use Rattle.table.specs.declared.Guard.the-variants.{Passed}
 
 -- n: there is one start more than vertices
 abbrev pub vertices : List ℕ → ℕ
@@ -49,20 +50,8 @@ breaks s l rule v = cond (eqb rule 5) (beyond s l v) (cond (eqb rule 6) (looped 
 unfoldable pub unreturned : List ℕ → List ℕ → ℕ → Bool
 unreturned s l v = any (λ u. not (member v (neighbors s l u))) (neighbors s l v)
 
-abbrev pub refused : ℕ → ℕ → Checked
-refused k p = Refused (record { number = k; place = p })
-
--- the number of an answer: 0 where nothing is refused
-abbrev pub numberOf : Checked → ℕ
-numberOf Sound = 0
-numberOf (Refused r) = r .number
-
--- refusal k at the lowest index below n that passes the test, and else the rest
-abbrev pub refuse : ℕ → (ℕ → Bool) → ℕ → Checked → Checked
-refuse k p n rest = cond (ltb (first p n) n) (refused k (first p n)) rest
-
--- the answer of the check: the lowest number first, each tested over the whole table, with document 01's place
-unfoldable pub checkOf : List ℕ → List ℕ → Checked
+-- what the check of a table refuses: the lowest number first, each tested over the whole table, with document 01's place
+unfoldable pub checkOf : List ℕ → List ℕ → Guard
 checkOf s l =
     cond (eqb (length s) 0) (refused 1 0)
     (cond (ltb 1024 (vertices s)) (refused 2 0)
@@ -71,7 +60,7 @@ checkOf s l =
     (refuse 5 (beyond s l) (vertices s)
     (refuse 6 (looped s l) (vertices s)
     (refuse 7 (unsorted s l) (vertices s)
-    (refuse 8 (unreturned s l) (vertices s) Sound)))))))
+    (refuse 8 (unreturned s l) (vertices s) Passed)))))))
 
 -- starts in order and in range: what `neighbors` relies on
 pub record Framed (s l : List ℕ) : Type 0 where

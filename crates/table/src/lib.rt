@@ -1,8 +1,11 @@
 // The adjacency table, in two lent slices: its check, refusals 1 to 8, and the neighbors of a vertex.
 ghost use mathlib.Core.Path.{_≡_};
 ghost use Prim.Native.Nat.{_<_};
+ghost use Rattle.finite.specs.Moments.{old};
 ghost use Rattle.table.specs.Table.{vertices, checkOf, Framed};
-ghost use Rattle.table.specs.Table.{neighbors as neighborsOf, refused as refusedOf};
+ghost use Rattle.table.specs.Table.{neighbors as neighborsOf};
+ghost use Rattle.table.specs.Guard.{answer, refused as refusedOf};
+ghost use Rattle.table.specs.declared.Checked.the-variants.{Sound, Refused as RefusedTable};
 
 mod paired; // the one pass that a sound table passes
 mod part; // one vertex's neighbors
@@ -12,6 +15,12 @@ mod rules; // the first start, or the first vertex, that breaks a rule
 pub struct Refusal {
     pub number: u16,
     pub place: usize,
+}
+
+// What a test before the work says: nothing is refused, or the refusal.
+pub enum Guard {
+    Passed,
+    Refused(Refusal),
 }
 
 // The answer of the check.
@@ -24,7 +33,7 @@ pub enum Checked {
 pub fn neighbors<'a, 'b>(starts: &'a [u16], links: &'b [u16], v: usize) -> &'b [u16]
     requires { ⌜ Framed (now starts) (now links) ⌝ }
     requires { ⌜ v < vertices (now starts) ⌝ }
-    ensures { λ r. ⌜ now r ≡ neighborsOf (now (starts .entry)) (now (links .entry)) v ⌝ }
+    ensures { λ r. ⌜ now r ≡ neighborsOf (old starts) (old links) v ⌝ }
 {
     let a = starts[v] as usize;
     let b = starts[v + 1] as usize;
@@ -32,15 +41,15 @@ pub fn neighbors<'a, 'b>(starts: &'a [u16], links: &'b [u16], v: usize) -> &'b [
 }
 
 // A refusal by its number and place.
-pub fn refused(number: u16, place: usize) -> Checked
+pub fn refused(number: u16, place: usize) -> Guard
     ensures { λ r. ⌜ r ≡ refusedOf number place ⌝ }
 {
-    Checked::Refused(Refusal { number, place })
+    Guard::Refused(Refusal { number, place })
 }
 
-// The check of a table: the lowest number first, each tested over the whole table.
-pub fn check(starts: &[u16], links: &[u16]) -> Checked
-    ensures { λ r. ⌜ r ≡ checkOf (now (starts .entry)) (now (links .entry)) ⌝ }
+// Refusals 1 to 8, or `Passed`: the lowest number first, each tested over the whole table.
+pub fn test_table(starts: &[u16], links: &[u16]) -> Guard
+    ensures { λ r. ⌜ r ≡ checkOf (old starts) (old links) ⌝ }
 {
     if starts.len() == 0 {
         return refused(1, 0);
@@ -57,7 +66,7 @@ pub fn check(starts: &[u16], links: &[u16]) -> Checked
         return refused(4, start);
     }
     if paired::all_paired(starts, links) {
-        return Checked::Sound;
+        return Guard::Passed;
     }
     let far = rules::first_breaking(starts, links, 5);
     if far < n {
@@ -75,5 +84,16 @@ pub fn check(starts: &[u16], links: &[u16]) -> Checked
     if alone < n {
         return refused(8, alone);
     }
-    Checked::Sound
+    Guard::Passed
+}
+
+// The check of a table.
+pub fn check(starts: &[u16], links: &[u16]) -> Checked
+    ensures { λ r. ⌜ r ≡ answer (checkOf (old starts) (old links)) Sound RefusedTable ⌝ }
+{
+    let tested = test_table(starts, links);
+    match tested {
+        Guard::Refused(refusal) => Checked::Refused(refusal),
+        Guard::Passed => Checked::Sound,
+    }
 }

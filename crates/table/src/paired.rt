@@ -3,6 +3,7 @@ ghost use mathlib.Core.Path.{_≡_};
 ghost use mathlib.Core.Bool.{true};
 ghost use Prim.Native.Nat.{_+_, _≤_, _<_};
 ghost use lib.ListN.{length};
+ghost use Rattle.finite.specs.Moments.{old, final};
 ghost use Rattle.table.specs.Table.{vertices, Framed, SoundTable};
 ghost use Rattle.table.specs.Paired.{Paired, Spent};
 
@@ -11,7 +12,7 @@ fn pair_lower(starts: &[u16], links: &[u16], v: usize, next: &mut [u16; 1024]) -
     requires { ⌜ Framed (now starts) (now links) ⌝ }
     requires { ⌜ (v < vertices (now starts)) × (vertices (now starts) ≤ 1024) ⌝ }
     requires { ⌜ Paired (now starts) (now links) v (now next) ⌝ }
-    ensures { λ r. ⌜ (r ≡ true → Paired (now (starts .entry)) (now (links .entry)) (v + 1) (now (next .exit))) ⌝ }
+    ensures { λ r. ⌜ (r ≡ true → Paired (old starts) (old links) (v + 1) (final next)) ⌝ }
 {
     let end = starts[v + 1];
     let mut at = starts[v];
@@ -43,7 +44,7 @@ fn pair_lower(starts: &[u16], links: &[u16], v: usize, next: &mut [u16; 1024]) -
 // Whether no vertex has an unpaired link.
 fn all_spent(starts: &[u16], next: &[u16; 1024]) -> bool
     requires { ⌜ (0 < length (now starts)) × (vertices (now starts) ≤ 1024) ⌝ }
-    ensures { λ r. ⌜ (r ≡ true → Spent (now (starts .entry)) (now (next .entry))) ⌝ }
+    ensures { λ r. ⌜ (r ≡ true → Spent (old starts) (old next)) ⌝ }
 {
     let n = starts.len() - 1;
     let mut v: usize = 0;
@@ -60,7 +61,7 @@ fn all_spent(starts: &[u16], next: &[u16; 1024]) -> bool
 pub fn all_paired(starts: &[u16], links: &[u16]) -> bool
     requires { ⌜ Framed (now starts) (now links) ⌝ }
     requires { ⌜ (vertices (now starts) ≤ 1024) × (length (now links) ≤ 16384) ⌝ }
-    ensures { λ r. ⌜ (r ≡ true → SoundTable (now (starts .entry)) (now (links .entry))) ⌝ }
+    ensures { λ r. ⌜ (r ≡ true → SoundTable (old starts) (old links)) ⌝ }
 {
     let n = starts.len() - 1;
     let mut next = [0u16; 1024];

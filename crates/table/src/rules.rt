@@ -2,13 +2,14 @@
 ghost use mathlib.Core.Path.{_≡_};
 ghost use Prim.Native.Nat.{_<_};
 ghost use lib.ListN.{length};
+ghost use Rattle.finite.specs.Moments.{old};
 ghost use Rattle.finite.specs.Search.{first, NoneBelow};
 ghost use Rattle.table.specs.Table.{vertices, badStart, beyond, unsorted, unreturned, breaks as breaksOf, Framed};
 
 // Whether start `i` is bad: not the number of links at the last, not 0 at the first, or below the one before.
 fn bad_start(starts: &[u16], links: &[u16], i: usize) -> bool
     requires { ⌜ i < length (now starts) ⌝ }
-    ensures { λ r. ⌜ r ≡ badStart (now (starts .entry)) (now (links .entry)) i ⌝ }
+    ensures { λ r. ⌜ r ≡ badStart (old starts) (old links) i ⌝ }
 {
     if i + 1 == starts.len() {
         if starts[i] as usize != links.len() {
@@ -23,7 +24,7 @@ fn bad_start(starts: &[u16], links: &[u16], i: usize) -> bool
 
 // The first bad start, or the number of starts.
 pub fn first_bad_start(starts: &[u16], links: &[u16]) -> usize
-    ensures { λ r. ⌜ r ≡ first (badStart (now (starts .entry)) (now (links .entry))) (length (now (starts .entry))) ⌝ }
+    ensures { λ r. ⌜ r ≡ first (badStart (old starts) (old links)) (length (old starts)) ⌝ }
 {
     let mut i: usize = 0;
     while i < starts.len() {
@@ -39,7 +40,7 @@ pub fn first_bad_start(starts: &[u16], links: &[u16]) -> usize
 fn breaks(starts: &[u16], links: &[u16], rule: u16, v: usize) -> bool
     requires { ⌜ Framed (now starts) (now links) ⌝ }
     requires { ⌜ v < vertices (now starts) ⌝ }
-    ensures { λ r. ⌜ r ≡ breaksOf (now (starts .entry)) (now (links .entry)) rule v ⌝ }
+    ensures { λ r. ⌜ r ≡ breaksOf (old starts) (old links) rule v ⌝ }
 {
     let part = crate::neighbors(starts, links, v);
     if rule == 5 {
@@ -54,7 +55,7 @@ fn breaks(starts: &[u16], links: &[u16], rule: u16, v: usize) -> bool
 // The lowest vertex whose neighbors break the rule, or n.
 pub fn first_breaking(starts: &[u16], links: &[u16], rule: u16) -> usize
     requires { ⌜ Framed (now starts) (now links) ⌝ }
-    ensures { λ r. ⌜ r ≡ first (breaksOf (now (starts .entry)) (now (links .entry)) rule) (vertices (now (starts .entry))) ⌝ }
+    ensures { λ r. ⌜ r ≡ first (breaksOf (old starts) (old links) rule) (vertices (old starts)) ⌝ }
 {
     let n = starts.len() - 1;
     let mut v: usize = 0;
@@ -72,7 +73,7 @@ pub fn first_unreturned(starts: &[u16], links: &[u16]) -> usize
     requires { ⌜ Framed (now starts) (now links) ⌝ }
     requires { ⌜ NoneBelow (beyond (now starts) (now links)) (vertices (now starts)) ⌝ }
     requires { ⌜ NoneBelow (unsorted (now starts) (now links)) (vertices (now starts)) ⌝ }
-    ensures { λ r. ⌜ r ≡ first (unreturned (now (starts .entry)) (now (links .entry))) (vertices (now (starts .entry))) ⌝ }
+    ensures { λ r. ⌜ r ≡ first (unreturned (old starts) (old links)) (vertices (old starts)) ⌝ }
 {
     let n = starts.len() - 1;
     let mut v: usize = 0;

@@ -6,10 +6,15 @@ ghost use lib.ListN.{length};
 use cases::read::field;
 use cases::read::numbers;
 use libc::STDIN_FILENO;
+use table::Checked;
 
 // Prints `NAME: sound` or `NAME: refused NUMBER PLACE`.
 fn run(name: &[u8], starts: &[u16], links: &[u16]) {
-    cases::print::answer(name, b":", table::check(starts, links));
+    let answer = table::check(starts, links);
+    match answer {
+        Checked::Sound => cases::print::sound(name, b":"),
+        Checked::Refused(refusal) => cases::print::refusal(name, b":", refusal),
+    }
 }
 
 // Start v of the table in which each of the vertices 0 to 63 is paired with each of 64 to 191, and then 192 with 193.

@@ -4,6 +4,7 @@ ghost use mathlib.Core.List.{flatten};
 ghost use Prim.Native.Nat.{_≤_};
 ghost use lib.ListN.{length};
 ghost use lib.Seq.{sets};
+ghost use Rattle.finite.specs.Moments.{old, final};
 ghost use Rattle.lines.specs.List.{anchor};
 ghost use Rattle.lines.specs.Line.{retainedAt};
 ghost use Rattle.text.specs.Text.{riderLinesAt, riderLinesOf, startsOf, restOf, readingOf, startsRead, linksRead, retainedRead};
@@ -46,9 +47,9 @@ fn rider_lines(
 ) -> RiderLines
     requires { ⌜ length (now text) ≤ 65536 ⌝ }
     requires { ⌜ from .at ≤ length (now text) ⌝ }
-    ensures { λ r. ⌜ r ≡ riderLinesOf (riderLinesAt n (now (text .entry)) (from .at)) ⌝ }
-    ensures { λ _. ⌜ now (starts .exit) ≡ sets (now (starts .entry)) 0 (startsOf (riderLinesAt n (now (text .entry)) (from .at))) ⌝ }
-    ensures { λ _. ⌜ now (links .exit) ≡ sets (now (links .entry)) 0 (flatten (riderLinesAt n (now (text .entry)) (from .at) .lists)) ⌝ }
+    ensures { λ r. ⌜ r ≡ riderLinesOf (riderLinesAt n (old text) (from .at)) ⌝ }
+    ensures { λ _. ⌜ final starts ≡ sets (old starts) 0 (startsOf (riderLinesAt n (old text) (from .at))) ⌝ }
+    ensures { λ _. ⌜ final links ≡ sets (old links) 0 (flatten (riderLinesAt n (old text) (from .at) .lists)) ⌝ }
 {
     let mut place = from.at;
     let mut count: usize = 0;
@@ -72,8 +73,8 @@ fn rider_lines(
 
 // What follows the riders' lines: the retained, the rounds, and nothing more.
 fn read_rest(text: &[u8], from: Cursor, n: u16, links: usize, anchored: &mut [u8]) -> Reading
-    ensures { λ r. ⌜ r ≡ restOf (now (text .entry)) n links (from .at) ⌝ }
-    ensures { λ _. ⌜ now (anchored .exit) ≡ anchor (now (anchored .entry)) (retainedAt (now (text .entry)) (from .at) .values) ⌝ }
+    ensures { λ r. ⌜ r ≡ restOf (old text) n links (from .at) ⌝ }
+    ensures { λ _. ⌜ final anchored ≡ anchor (old anchored) (retainedAt (old text) (from .at) .values) ⌝ }
 {
     let number = n as usize + 2;
     let LineRead::Kept(line, beyond, next) = retained_line(text, from, number, n, anchored) else {
@@ -101,10 +102,10 @@ fn read_rest(text: &[u8], from: Cursor, n: u16, links: usize, anchored: &mut [u8
 // up to a line that departs.
 pub fn read_text(text: &[u8], starts: &mut [u16], links: &mut [u16], anchored: &mut [u8]) -> Reading
     requires { ⌜ length (now text) ≤ 65536 ⌝ }
-    ensures { λ r. ⌜ r ≡ readingOf (now (text .entry)) ⌝ }
-    ensures { λ _. ⌜ now (starts .exit) ≡ sets (now (starts .entry)) 0 (startsRead (now (text .entry))) ⌝ }
-    ensures { λ _. ⌜ now (links .exit) ≡ sets (now (links .entry)) 0 (linksRead (now (text .entry))) ⌝ }
-    ensures { λ _. ⌜ now (anchored .exit) ≡ anchor (now (anchored .entry)) (retainedRead (now (text .entry))) ⌝ }
+    ensures { λ r. ⌜ r ≡ readingOf (old text) ⌝ }
+    ensures { λ _. ⌜ final starts ≡ sets (old starts) 0 (startsRead (old text)) ⌝ }
+    ensures { λ _. ⌜ final links ≡ sets (old links) 0 (linksRead (old text)) ⌝ }
+    ensures { λ _. ⌜ final anchored ≡ anchor (old anchored) (retainedRead (old text)) ⌝ }
 {
     let LineRead::Kept(first, _, next) = riders_line(text, Cursor { at: 0 }, 1) else {
         return Reading::Departs(1);

@@ -29,7 +29,7 @@ vertex c =
     let start = c .before .before .before .before .before .before .before .before in
     let part = c .before .before .neighbors .result .now in
     let w = getD part (c .before .loop .j) 0 in
-    start .pre .0 .admitted .table .range (start .args .u) w (start .pre .1 .0) (subst (In w) (c .before .before .neighbors .ensures) (in-at part (c .before .loop .j) 0 (c .loop-test .taken)))
+    start .pre .0 .leveled .admitted .table .range (start .args .u) w (start .pre .1 .0) (subst (In w) (c .before .before .neighbors .ensures) (in-at part (c .before .loop .j) 0 (c .loop-test .taken)))
 
 -- one that is not marked leaves room in the queue
 room :
@@ -40,12 +40,12 @@ room c =
     let at = in-loop .before .loop in
     let start = in-loop .before .before .before .before .before .before .before .before in
     let part = in-loop .before .before .neighbors .result .now in
-    omega (arith, start .pre .0 .admitted .table .small, queue-room (vertices (start .args .starts .now)) (at .marks) (at .queue) (at .end) (at .inv .1) (getD part (at .j) 0) (vertex in-loop) (c .if2 .taken))
+    omega (arith, start .pre .0 .leveled .admitted .table .small, queue-room (at .inv .1) (getD part (at .j) 0) (vertex in-loop) (c .if2 .taken))
 
 neighbors-requires : tie.Need-neighbors-requires Inv-loop μ-loop
 neighbors-requires c κs =
     let start = c .before .before .before .before .before in
-    (start .pre .0 .admitted .table .framed, start .pre .1 .0)
+    (start .pre .0 .leveled .admitted .table .framed, start .pre .1 .0)
 
 loop-holds : tie.Need-loop-holds Inv-loop μ-loop
 loop-holds c =
@@ -59,23 +59,23 @@ shared-slice-read-w : tie.Need-shared-slice-read-w Inv-loop μ-loop
 shared-slice-read-w c = search needs
 
 cast-w : tie.Need-cast-w Inv-loop μ-loop
-cast-w c = omega (arith, vertex (c .before), c .before .before .before .before .before .before .before .before .before .pre .0 .admitted .table .small)
+cast-w c = omega (arith, vertex (c .before), c .before .before .before .before .before .before .before .before .before .pre .0 .leveled .admitted .table .small)
 
 steps-requires : tie.Need-steps-requires Inv-loop μ-loop
 steps-requires c κs =
     let start = c .before .before .before .before .before .before .before .before .before in
     let sheet = start .pre .0 in
-    omega (arith, vertex (c .before), start .pre .1 .0, sheet .admitted .long, sheet .levels-long, sheet .layers-long)
+    omega (arith, vertex (c .before), start .pre .1 .0, sheet .leveled .admitted .long, sheet .leveled .long, sheet .layers-long)
 
 element-copy-out-if2 : tie.Need-element-copy-out-if2 Inv-loop μ-loop
 element-copy-out-if2 c =
     let start = c .before .before .before .before .before .before .before .before .before .before .before in
-    omega (arith, vertex (c .before .before .before), start .pre .0 .admitted .table .small)
+    omega (arith, vertex (c .before .before .before), start .pre .0 .leveled .admitted .table .small)
 
 element-write-marks : tie.Need-element-write-marks Inv-loop μ-loop
 element-write-marks c =
     let start = c .before .before .before .before .before .before .before .before .before .before .before .before .before in
-    omega (arith, vertex (c .before .before .before .before .before), start .pre .0 .admitted .table .small)
+    omega (arith, vertex (c .before .before .before .before .before), start .pre .0 .leveled .admitted .table .small)
 
 mul-queue : tie.Need-mul-queue Inv-loop μ-loop
 mul-queue c = search needs
@@ -104,7 +104,6 @@ loop-again c =
     let at = in-loop .before .loop in
     let start = in-loop .before .before .before .before .before .before .before .before in
     let args = start .args in
-    let n = vertices (args .starts .now) in
     let part = in-loop .before .before .neighbors .result .now in
     let w = getD part (at .j) 0 in
     let b = vertex in-loop in
@@ -114,19 +113,19 @@ loop-again c =
     ⊎-elim
     (λ d. rw (d .4, d .5, d .6) (
       omega arith,
-      push n (at .marks) (at .queue) (at .end) (at .inv .1) w b (d .2 .taken),
-      visit-push n (at .marks) (at .queue) (at .end) (at .inv .1) test q part (at .j) inside (at .inv .2) b (of-true (test w) (sym (c .before .steps .ensures) ∙ d .0 .taken)) (d .2 .taken),
+      push (at .inv .1) w b (d .2 .taken),
+      visit-push (at .inv .1) test q part (at .j) inside (at .inv .2) b (of-true (test w) (sym (c .before .steps .ensures) ∙ d .0 .taken)) (d .2 .taken),
     ))
     (⊎-elim
     (λ d. rw (d .3, d .4, d .5) (
       omega arith,
       at .inv .1,
-      visit-pass n (at .marks) (at .queue) (at .end) (at .inv .1) test q part (at .j) inside (at .inv .2) (λ t. marked n (at .marks) (at .queue) (at .end) (at .inv .1) w (d .2 .left)),
+      visit-pass (at .inv .1) test q part (at .j) inside (at .inv .2) (λ t. marked (at .inv .1) w (d .2 .left)),
     ))
     (λ d. rw (d .1, d .2, d .3) (
       omega arith,
       at .inv .1,
-      visit-pass n (at .marks) (at .queue) (at .end) (at .inv .1) test q part (at .j) inside (at .inv .2) (λ t. absurd (T-not (test w) (of-false (test w) (sym (c .before .steps .ensures) ∙ d .0 .left)) t)),
+      visit-pass (at .inv .1) test q part (at .j) inside (at .inv .2) (λ t. absurd (T-not (test w) (of-false (test w) (sym (c .before .steps .ensures) ∙ d .0 .left)) t)),
     )))
     (c .if1 .came)
 

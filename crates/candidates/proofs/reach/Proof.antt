@@ -29,11 +29,11 @@ vertex c =
     let at = c .before .loop in
     let q = take (at .tail) (at .queue) in
     let e = getD-take (at .tail) (at .queue) (at .head) 0 (c .loop-test .taken) in
-    at .inv .1 .within (getD (at .queue) (at .head) 0) (subst (λ v. In v q) e (in-at q (at .head) 0 (omega (arith, queue-length _ _ (at .queue) (at .tail) (at .inv .1)))))
+    at .inv .1 .within (getD (at .queue) (at .head) 0) (subst (λ v. In v q) e (in-at q (at .head) 0 (omega (arith, queue-length (at .inv .1)))))
 
 -- the queue fits
 within : (c : tie.At-loop Inv-loop μ-loop) → c .loop .tail ≤ vertices (c .before .before .before .before .before .before .before .before .before .args .starts .now)
-within c = queue-within _ (c .loop .marks) (c .loop .queue) (c .loop .tail) (c .loop .inv .1)
+within c = queue-within (c .loop .inv .1)
 
 expand-requires : tie.Need-expand-requires Inv-loop μ-loop
 expand-requires c κs =
@@ -45,16 +45,16 @@ loop-holds c =
     let start = c .before .before .before .before .before .before .before .before in
     let args = start .args in
     let e = c .expand .ensures .1 in
-    (omega arith, c .expand .ensures .0, rw e (reach-first (args .starts .now) (args .links .now) (args .anchored .now) (args .levels .now) (args .layers .now) (start .pre .0) (args .x) (start .pre .1 .0)))
+    (omega arith, c .expand .ensures .0, rw e (reach-first (start .pre .0) (args .x) (start .pre .1 .0)))
 
 mul-u : tie.Need-mul-u Inv-loop μ-loop
-mul-u c = omega (arith, within (c .before), c .before .before .before .before .before .before .before .before .before .before .pre .0 .admitted .table .small)
+mul-u c = omega (arith, within (c .before), c .before .before .before .before .before .before .before .before .before .before .pre .0 .leveled .admitted .table .small)
 
 element-copy-out-u : tie.Need-element-copy-out-u Inv-loop μ-loop
-element-copy-out-u c = omega (arith, within (c .before), c .before .before .before .before .before .before .before .before .before .before .pre .0 .admitted .table .small)
+element-copy-out-u c = omega (arith, within (c .before), c .before .before .before .before .before .before .before .before .before .before .pre .0 .leveled .admitted .table .small)
 
 cast-u : tie.Need-cast-u Inv-loop μ-loop
-cast-u c = omega (arith, vertex (c .before), c .before .before .before .before .before .before .before .before .before .before .before .pre .0 .admitted .table .small)
+cast-u c = omega (arith, vertex (c .before), c .before .before .before .before .before .before .before .before .before .before .before .pre .0 .leveled .admitted .table .small)
 
 expand-requires-2 : tie.Need-expand-requires-2 Inv-loop μ-loop
 expand-requires-2 c κs =
@@ -63,7 +63,7 @@ expand-requires-2 c κs =
     (start .pre .0, (vertex in-loop, in-loop .before .loop .inv .1))
 
 add-head : tie.Need-add-head Inv-loop μ-loop
-add-head c = omega (arith, within (c .before .before .before .before .before), c .before .before .before .before .before .before .before .before .before .before .before .before .before .before .pre .0 .admitted .table .small)
+add-head c = omega (arith, within (c .before .before .before .before .before), c .before .before .before .before .before .before .before .before .before .before .before .before .before .before .pre .0 .leveled .admitted .table .small)
 
 loop-less : tie.Need-loop-less Inv-loop μ-loop
 loop-less c = omega (arith, within (c .before .before .before .before .before))
@@ -74,18 +74,14 @@ loop-again c =
     let at = in-loop .before .loop in
     let start = in-loop .before .before .before .before .before .before .before .before .before .before in
     let args = start .args in
-    let marks = c .expand2 .last .1 .1 .1 .1 .1 .1 .1 .0 in
-    let queue = c .expand2 .last .1 .1 .1 .1 .1 .1 .1 .1 .0 in
     let queued = c .expand2 .ensures .0 in
     let e = c .expand2 .ensures .1 in
     let u = getD (at .queue) (at .head) 0 in
     let test = stepsOf (args .anchored .now) (args .levels .now) (args .layers .now) false u in
     let part = neighborsOf (args .starts .now) (args .links .now) u in (
-      omega (arith, queue-grows (vertices (args .starts .now)) (at .marks) (at .queue) marks queue (at .tail) (c .expand2 .result) (at .inv .1) queued test part e),
+      omega (arith, queue-grows (at .inv .1) queued test part e),
       queued,
-      rw e (reach-next (args .starts .now) (args .links .now) (args .anchored .now) (args .levels .now) (args .layers .now) (start .pre .0) (args .x) (start .pre .1 .0)
-          (take (at .tail) (at .queue)) (at .head) (at .inv .2) (omega (arith, queue-length (vertices (args .starts .now)) (at .marks) (at .queue) (at .tail) (at .inv .1)))
-          u (getD-take (at .tail) (at .queue) (at .head) 0 (omega arith))),
+      rw e (reach-next (start .pre .0) (args .x) (start .pre .1 .0) (at .inv .2) (omega (arith, queue-length (at .inv .1))) u (getD-take (at .tail) (at .queue) (at .head) 0 (omega arith))),
     )
 
 returns : tie.Need-returns Inv-loop μ-loop
@@ -95,8 +91,7 @@ returns c =
     let at = c .before .loop in
     record {
       queued = at .inv .1;
-      all = reach-end (args .starts .now) (args .links .now) (args .anchored .now) (args .levels .now) (args .layers .now) (start .pre .0) (args .x) (start .pre .1 .0)
-          (take (at .tail) (at .queue)) (at .head) (at .inv .2) (omega (arith, queue-length (vertices (args .starts .now)) (at .marks) (at .queue) (at .tail) (at .inv .1)));
+      all = reach-end (start .pre .0) (args .x) (start .pre .1 .0) (at .inv .2) (omega (arith, queue-length (at .inv .1)));
     }
 
 pub reach-spec : {M : Type 1} → statement M

@@ -34,15 +34,15 @@ returns-2 c =
     let later = not-true (args .first) (c .before .before .before .if2 .taken) in
     simp (eq-eqb _ _ free, later, ne-eqb _ _ (c .if3 .taken))
 
-is-greater-requires : tie.Need-is-greater-requires
-is-greater-requires c κs = search needs
+is-above-requires : tie.Need-is-above-requires
+is-above-requires c κs = search needs
 
 returns-3 : tie.Need-returns-3
 unfolding stepsOf
 returns-3 c =
     let args = c .before .before .before .before .before .before .before .args in
     let free = c .before .before .if1 .left in
-    c .is-greater .ensures ∙ ⊎-elim
+    c .is-above .ensures ∙ ⊎-elim
     (λ w. let later = not-true (args .first) (w .0 .taken) in simp (eq-eqb _ _ free, later, eq-eqb _ _ (w .3 .left)))
     (λ w. let at-first = not-false (args .first) (w .left) in simp (eq-eqb _ _ free, at-first))
     (c .before .if2 .came)
@@ -58,5 +58,5 @@ steps-spec =
     mul-if3-2
     shared-slice-read-if3-2
     returns-2
-    is-greater-requires
+    is-above-requires
     returns-3)

@@ -4,7 +4,7 @@ use mathlib.Core.List.{map}
 use Prim.Native.Nat.{_≤_}
 use native.Mathlib.Omega.{arith}
 use lib.ListN.{length, getD}
-use Rattle.components.specs.Answers.{front}
+use Rattle.table.specs.Guard.{front}
 use Rattle.components.specs.Entries.{Placed}
 use Rattle.components.proofs.Entries.{ranked-taken, ranked-placed}
 use borrow.Author.Needs.{needs}

@@ -4,7 +4,7 @@ use Prim.Native.Nat.{_≤_}
 use Rattle.table.specs.Table.{vertices}
 use Rattle.shells.specs.Input.{graphOf, anchoredBy}
 use Rattle.shells.proofs.Laws.{simple}
-use Rattle.components.specs.Answers.{front}
+use Rattle.table.specs.Guard.{front}
 use Rattle.components.proofs.Entries.{Defined, defined}
 use Rattle.components.proofs.write_list.Statement.{statement}
 use Rattle.components.proofs.write_list.Tie as tie
@@ -29,7 +29,7 @@ lists : (c : tie.After-count-members) → let args = entry (filled c) .args in
     Defined (graphOf (args .starts .now) (args .links .now)) (anchoredBy (args .anchored .now)) (filled c .fill .last .1 .1 .1 .0) (filled c .fill .last .1 .1 .1 .1 .1 .0) (c .count-members .last .1 .1 .0)
 lists c =
     let holds = filled c .fill .ensures in
-    defined _ (simple _ _ (entry (filled c) .pre .0 .table)) _ (small (filled c)) _ _ _ (holds .0) (holds .1 .1) (c .count-members .ensures)
+    defined _ (simple (entry (filled c) .pre .0 .table)) _ (small (filled c)) _ _ _ (holds .0) (holds .1 .1) (c .count-members .ensures)
 
 sub-n : tie.Need-sub-n
 sub-n c = c .before .before .before .before .before .before .pre .0 .table .framed .some

@@ -24,13 +24,20 @@ same-length : tie.Need-same-length
 same-length c = search needs
 
 returns : tie.Need-returns
-returns c = let a = c .before .before .before .before .before .text-to-sheet .ensures in sheet-printed _ _ _ (a .0) _ _ (c .before .answer .given .1) (a .1)
+returns c =
+    let called = c .before .before .before .before .before in
+    let answered = called .text-to-sheet .ensures in
+    sheet-printed _ (called .before .before .before .before .args .out .now) (answered .0) (answered .1) (c .before .answer .given .1)
 
 same-length-2 : tie.Need-same-length-2
 same-length-2 c = search needs
 
 returns-2 : tie.Need-returns-2
-returns-2 c = let a = c .before .before .before .before .before .before .before .before .before .before .text-to-sheet .ensures in refusal-printed _ _ _ (a .0) _ _ _ _ (c .before .before .before .before .before .before .answer2 .given .1) (a .1) (c .before .before .before .before .before .before .before .before .before .before .before .before .before .before .pre) (omega arith) (omega arith) (c .before .before .put-refused .ensures)
+returns-2 c =
+    let called = c .before .before .before .before .before .before .before .before .before .before in
+    let start = called .before .before .before .before in
+    let answered = called .text-to-sheet .ensures in
+    refusal-printed _ (start .args .out .now) (answered .0) (answered .1) (c .before .before .before .before .before .before .answer2 .given .1) (start .pre) (omega arith) (omega arith) (c .before .before .put-refused .ensures)
 
 pub print-spec : {M : Type 1} → statement M
 print-spec =

@@ -77,23 +77,20 @@ slice-aggregate-run-9 c = lent _ _ (c .before .before .before .before .before .b
 run-requires : tie.Need-run-requires
 run-requires c κs = search needs
 
-slice-aggregate-answer : tie.Need-slice-aggregate-answer
-slice-aggregate-answer c = search needs
-
-answer-requires : tie.Need-answer-requires
-answer-requires c κs = search needs
+print-ran-requires : tie.Need-print-ran-requires
+print-ran-requires c κs = search needs
 
 slice-aggregate-rows : tie.Need-slice-aggregate-rows
 slice-aggregate-rows c = search needs
 
 slice-aggregate-rows-2 : tie.Need-slice-aggregate-rows-2
 slice-aggregate-rows-2 c =
-    let at = c .before .before .before .before .before .before .before .before .before .before .before .before .before in
+    let at = c .before .before .before .before .before .before .before .before .before .before .before .before in
     back _ (at .run .last .1 .1 .1 .1 .1 .1 .1 .1 .1 .1 .0) _ (first at .pre .1) (at .run .kept .1 .1 .1 .1 .1 .1 .1 .1 .1 .1 .0)
 
 slice-aggregate-rows-3 : tie.Need-slice-aggregate-rows-3
 slice-aggregate-rows-3 c =
-    let at = c .before .before .before .before .before .before .before .before .before .before .before .before .before .before in
+    let at = c .before .before .before .before .before .before .before .before .before .before .before .before .before in
     back _ (at .run .last .1 .1 .1 .1 .1 .1 .1 .1 .1 .1 .1 .0) _ (first at .pre .1) (at .run .kept .1 .1 .1 .1 .1 .1 .1 .1 .1 .1 .1 .0)
 
 rows-requires : tie.Need-rows-requires
@@ -104,17 +101,17 @@ slice-aggregate-rows-4 c = search needs
 
 slice-aggregate-rows-5 : tie.Need-slice-aggregate-rows-5
 slice-aggregate-rows-5 c =
-    let at = c .before .before .before .before .before .before .before .before .before .before .before .before .before .before .before .before .before in
+    let at = c .before .before .before .before .before .before .before .before .before .before .before .before .before .before .before .before in
     back _ (at .run .last .1 .1 .1 .1 .1 .1 .1 .1 .1 .1 .1 .1 .0) _ (first at .pre .1) (at .run .kept .1 .1 .1 .1 .1 .1 .1 .1 .1 .1 .1 .1 .0)
 
 slice-aggregate-rows-6 : tie.Need-slice-aggregate-rows-6
 slice-aggregate-rows-6 c =
-    let at = c .before .before .before .before .before .before .before .before .before .before .before .before .before .before .before .before .before .before in
+    let at = c .before .before .before .before .before .before .before .before .before .before .before .before .before .before .before .before .before in
     back _ (at .run .last .1 .1 .1 .1 .1 .1 .1 .1 .1 .0) _ (first at .pre .0) (at .run .kept .1 .1 .1 .1 .1 .1 .1 .1 .1 .0)
 
 slice-aggregate-rows-7 : tie.Need-slice-aggregate-rows-7
 slice-aggregate-rows-7 c =
-    let at = c .before .before .before .before .before .before .before .before .before .before .before .before .before .before .before .before .before .before .before in
+    let at = c .before .before .before .before .before .before .before .before .before .before .before .before .before .before .before .before .before .before in
     back _ (at .run .last .1 .1 .1 .1 .1 .0) _ (first at .pre .0) (at .run .kept .1 .1 .1 .1 .1 .0)
 
 rows-requires-2 : tie.Need-rows-requires-2
@@ -125,17 +122,17 @@ slice-aggregate-rows-8 c = search needs
 
 slice-aggregate-rows-9 : tie.Need-slice-aggregate-rows-9
 slice-aggregate-rows-9 c =
-    let at = c .before .before .before .before .before .before .before .before .before .before .before .before .before .before .before .before .before .before .before .before .before .before in
+    let at = c .before .before .before .before .before .before .before .before .before .before .before .before .before .before .before .before .before .before .before .before .before in
     back _ (at .run .last .1 .1 .1 .1 .1 .1 .0) _ (first at .pre .0) (at .run .kept .1 .1 .1 .1 .1 .1 .0)
 
 slice-aggregate-rows-10 : tie.Need-slice-aggregate-rows-10
 slice-aggregate-rows-10 c =
-    let at = c .before .before .before .before .before .before .before .before .before .before .before .before .before .before .before .before .before .before .before .before .before .before .before in
+    let at = c .before .before .before .before .before .before .before .before .before .before .before .before .before .before .before .before .before .before .before .before .before .before in
     back _ (at .run .last .1 .1 .1 .1 .1 .1 .1 .0) _ (first at .pre .0) (at .run .kept .1 .1 .1 .1 .1 .1 .1 .0)
 
 slice-aggregate-rows-11 : tie.Need-slice-aggregate-rows-11
 slice-aggregate-rows-11 c =
-    let at = c .before .before .before .before .before .before .before .before .before .before .before .before .before .before .before .before .before .before .before .before .before .before .before .before in
+    let at = c .before .before .before .before .before .before .before .before .before .before .before .before .before .before .before .before .before .before .before .before .before .before .before in
     back _ (at .run .last .1 .1 .1 .1 .1 .1 .1 .1 .0) _ (first at .pre .0) (at .run .kept .1 .1 .1 .1 .1 .1 .1 .1 .0)
 
 rows-requires-3 : tie.Need-rows-requires-3
@@ -167,8 +164,7 @@ run-spec =
     array-borrow-prefix-redone
     slice-aggregate-run-9
     run-requires
-    slice-aggregate-answer
-    answer-requires
+    print-ran-requires
     slice-aggregate-rows
     slice-aggregate-rows-2
     slice-aggregate-rows-3

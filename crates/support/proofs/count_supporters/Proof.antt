@@ -26,20 +26,20 @@ vertex c =
     let start = c .before .before .before .before .before .before .before in
     let part = c .before .before .neighbors .result .now in
     let p = getD part (c .before .loop .j) 0 in
-    start .pre .0 .table .range (start .args .v) p (start .pre .1 .1) (subst (In p) (c .before .before .neighbors .ensures) (in-at part (c .before .loop .j) 0 (c .loop-test .taken)))
+    start .pre .0 .admitted .table .range (start .args .v) p (start .pre .1) (subst (In p) (c .before .before .neighbors .ensures) (in-at part (c .before .loop .j) 0 (c .loop-test .taken)))
 
 -- there are few neighbors
 few : (c : tie.After-neighbors Inv-loop μ-loop) → length (c .neighbors .result .now) ≤ 1024
 few c =
     let start = c .before .before .before .before .before in
-    let table = start .pre .0 .table in
+    let table = start .pre .0 .admitted .table in
     let e = c .neighbors .ensures in
-    rw e (omega (arith, table .small, neighbors-few (start .args .starts .now) (start .args .links .now) table (start .args .v) (start .pre .1 .1)))
+    rw e (omega (arith, table .small, neighbors-few (start .args .starts .now) (start .args .links .now) table (start .args .v) (start .pre .1)))
 
 neighbors-requires : tie.Need-neighbors-requires Inv-loop μ-loop
 neighbors-requires c κs =
     let start = c .before .before .before .before in
-    (start .pre .0 .table .framed, start .pre .1 .1)
+    (start .pre .0 .admitted .table .framed, start .pre .1)
 
 loop-holds : tie.Need-loop-holds Inv-loop μ-loop
 loop-holds c =
@@ -58,7 +58,7 @@ cast-supports c = omega (arith, c .shared-slice-known5 .given (c .before .before
 supports-requires : tie.Need-supports-requires Inv-loop μ-loop
 supports-requires c κs =
     let start = c .before .before .before .before .before .before .before .before in
-    omega (arith, vertex (c .before), start .pre .0 .long, start .pre .0 .table .small, start .pre .1 .0, start .pre .1 .1)
+    omega (arith, vertex (c .before), start .pre .0 .admitted .long, start .pre .0 .admitted .table .small, start .pre .0 .long, start .pre .1)
 
 cast-total : tie.Need-cast-total Inv-loop μ-loop
 cast-total c = search needs

@@ -10,7 +10,7 @@ use Rattle.finite.proofs.Count.{in-at}
 use Rattle.table.specs.Table.{vertices}
 use Rattle.table.specs.Table.{neighbors as neighborsOf}
 use Rattle.support.specs.Striking.{marked, state, lossOf}
-use Rattle.support.proofs.Striking.{Striking, lostTo, still-in, out-room, out-within, weaken-end, weaken-front, first-vertex, withdraw-start, withdraw-next, withdraw-end, settle-start, settle-end}
+use Rattle.support.proofs.Striking.{Striking, lostTo, still-in, out-room, out-within, weaken-end, weaken-front, here-vertex, withdraw-start, withdraw-next, withdraw-end, settle-start, settle-end}
 use Rattle.support.proofs.settle.Statement.{statement}
 use Rattle.support.proofs.settle.Tie as tie
 use borrow.Author.Needs.{needs}
@@ -36,18 +36,13 @@ candidateAt c = marked (c .args .marks .now)
 
 -- the list of those struck out fits
 within : (c : tie.At-loop Inv-loop2 μ-loop2 Inv-loop μ-loop) → c .loop .end ≤ vertices (c .before .before .before .before .args .starts .now)
-within c =
-    let at = c .loop in
-    out-within _ (candidateAt (c .before .before .before .before)) (state (at .marks) (at .support) (at .struck) (at .end)) (at .inv .1 .listed)
+within c = out-within (c .loop .inv .1 .listed)
 
 -- the one withdrawn is a vertex
 vertex :
     (c : tie.In-loop Inv-loop2 μ-loop2 Inv-loop μ-loop) →
     getD (c .before .loop .struck) (c .before .loop .head) 0 < vertices (c .before .before .before .before .before .args .starts .now)
-vertex c =
-    let start = c .before .before .before .before .before in
-    let at = c .before .loop in
-    first-vertex (start .args .starts .now) (start .args .links .now) (start .args .levels .now) (start .pre .0) (supportAt start) (candidateAt start) (state (at .marks) (at .support) (at .struck) (at .end)) (at .inv .1 .listed) (at .head) (c .loop-test .taken)
+vertex c = let at = c .before .loop in here-vertex (at .inv .1 .listed) (at .head) (c .loop-test .taken)
 
 -- what holds of the state in the inner loop
 inner :
@@ -77,8 +72,7 @@ neighbor c =
 loop-holds : tie.Need-loop-holds Inv-loop2 μ-loop2 Inv-loop μ-loop
 loop-holds c =
     let start = c .before .before .before in
-    let args = start .args in
-    (search needs, settle-start (args .starts .now) (args .links .now) (args .levels .now) (start .pre .0) (candidateAt start) (state (args .marks .now) (args .support .now) (args .struck .now) (args .weak)) (start .pre .1 .1))
+    (search needs, settle-start (start .pre .0) (start .pre .1 .1))
 
 mul-u : tie.Need-mul-u Inv-loop2 μ-loop2 Inv-loop μ-loop
 mul-u c = omega (arith, within (c .before), c .before .before .before .before .before .pre .0 .small)
@@ -95,14 +89,8 @@ neighbors-requires c κs = (c .before .before .before .before .before .before .p
 loop2-holds : tie.Need-loop2-holds Inv-loop2 μ-loop2 Inv-loop μ-loop
 loop2-holds c =
     let in-loop = c .before .before in
-    let at = in-loop .before .loop in
     let start = in-loop .before .before .before .before .before in
-    let args = start .args in (
-      omega arith,
-      in-loop .loop-test .taken,
-      refl,
-      λ S C k. withdraw-start (args .starts .now) (args .links .now) (args .levels .now) (start .pre .0) S C (state (at .marks) (at .support) (at .struck) (at .end)) (k .listed) (at .head) (in-loop .loop-test .taken) k,
-    )
+    (omega arith, in-loop .loop-test .taken, refl, λ S C k. withdraw-start (start .pre .0) (in-loop .before .loop .head) k (in-loop .loop-test .taken))
 
 mul-weaken : tie.Need-mul-weaken Inv-loop2 μ-loop2 Inv-loop μ-loop
 mul-weaken c = search needs
@@ -119,8 +107,6 @@ weaken-requires c κs =
     let in-loop = in-loop2 .before .before .before .before in
     let at = in-loop2 .before .loop2 in
     let start = in-loop .before .before .before .before .before in
-    let n = vertices (start .args .starts .now) in
-    let st = state (at .marks) (at .support) (at .struck) (at .end) in
     let w = getD (in-loop2 .before .before .neighbors .result .now) (at .j) 0 in
     let k = inner (in-loop2 .before) in
     let b = neighbor in-loop2 in (
@@ -130,8 +116,8 @@ weaken-requires c κs =
         (
           omega (arith, b, start .pre .0 .small),
           λ m.
-              let alive = still-in n (candidateAt start) st (k .listed) w m in
-              (omega (arith, k .strong w (alive .0) (alive .1)), omega (arith, start .pre .0 .small, out-room n (candidateAt start) st (k .listed) w (alive .0) (alive .1))),
+              let alive = still-in (k .listed) w m in
+              (omega (arith, k .strong w (alive .0) (alive .1)), omega (arith, start .pre .0 .small, out-room (k .listed) w (alive .0) (alive .1))),
         ),
       ),
     )
@@ -161,8 +147,7 @@ loop2-again c =
       omega arith,
       omega (arith, at .inv .1, weaken-end levels u w st, ap (λ r. r .end) e),
       ap (λ r. take (out .head + 1) (r .struck)) e ∙ weaken-front levels u w st (out .head + 1) (omega (arith, at .inv .1)) ∙ at .inv .2,
-      λ S C k. rw (e, place) (withdraw-next (args .starts .now) (args .links .now) levels (start .pre .0) S C (state (out .marks) (out .support) (out .struck) (out .end)) (k .listed) (out .head) (in-loop .loop-test .taken)
-          st (at .inv .1, at .inv .2) (at .j) (rw is-part at (in-loop2 .loop2-test .taken)) (at .inv .3 S C k)),
+      λ S C k. rw (e, place) (withdraw-next (start .pre .0) (out .head) k (in-loop .loop-test .taken) (at .j) (rw is-part at (in-loop2 .loop2-test .taken)) (at .inv .1, at .inv .2) (at .inv .3 S C k)),
     )
 
 add-head : tie.Need-add-head Inv-loop2 μ-loop2 Inv-loop μ-loop
@@ -177,19 +162,14 @@ loop-again c =
     let at = c .before .loop2 in
     let out = in-loop .before .loop in
     let start = in-loop .before .before .before .before .before in
-    let args = start .args in
-    let is-part = c .before .before .neighbors .ensures in (
-      omega (arith, at .inv .1),
-      withdraw-end (args .starts .now) (args .links .now) (args .levels .now) (start .pre .0) (supportAt start) (candidateAt start) (state (out .marks) (out .support) (out .struck) (out .end)) (out .inv .1 .listed) (out .head) (in-loop .loop-test .taken)
-          (state (at .marks) (at .support) (at .struck) (at .end)) (at .inv .1, at .inv .2) (at .j) (rw is-part at (c .loop2-test .left)) (inner (c .before)),
-    )
+    let is-part = c .before .before .neighbors .ensures in
+    (omega (arith, at .inv .1), withdraw-end (start .pre .0) (out .head) (out .inv .1) (in-loop .loop-test .taken) (at .inv .1, at .inv .2) (at .j) (rw is-part at (c .loop2-test .left)) (inner (c .before)))
 
 returns : tie.Need-returns Inv-loop2 μ-loop2 Inv-loop μ-loop
 returns c =
     let start = c .before .before .before .before .before in
-    let args = start .args in
     let at = c .before .loop in
-    settle-end (args .starts .now) (args .links .now) (args .levels .now) (start .pre .0) (supportAt start) (candidateAt start) (state (at .marks) (at .support) (at .struck) (at .end)) (at .head) (at .inv .0) (c .loop-test .left) (at .inv .1)
+    settle-end (start .pre .0) (at .head) (at .inv .0) (c .loop-test .left) (at .inv .1)
 
 pub settle-spec : {M : Type 1} → statement M
 settle-spec =

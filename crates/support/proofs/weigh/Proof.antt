@@ -36,13 +36,13 @@ vertex c =
     let queue = start .args .queue .now in
     let tail = start .args .tail in
     let i = c .before .loop .i in
-    let queued = start .pre .1 .1 .0 in
+    let queued = start .pre .1 .0 in
     let q = take tail queue in
-    queued .within (getD queue i 0) (subst (λ v. In v q) (getD-take tail queue i 0 (c .loop-test .taken)) (in-at q i 0 (omega (arith, queue-length (vertices (start .args .starts .now)) (start .args .marks .now) queue tail queued))))
+    queued .within (getD queue i 0) (subst (λ v. In v q) (getD-take tail queue i 0 (c .loop-test .taken)) (in-at q i 0 (omega (arith, queue-length queued))))
 
 -- the queue fits
 few : (c : tie.Start Inv-loop μ-loop) → c .args .tail ≤ 1024
-few c = omega (arith, c .pre .0 .table .small, queue-within (vertices (c .args .starts .now)) (c .args .marks .now) (c .args .queue .now) (c .args .tail) (c .pre .1 .1 .0))
+few c = omega (arith, c .pre .0 .admitted .table .small, queue-within (c .pre .1 .0))
 
 -- there is room for one more struck out
 room : (c : tie.In-loop Inv-loop μ-loop) → c .before .loop .end < 1024
@@ -50,16 +50,15 @@ room c =
     let start = c .before .before .before .before .before .before in
     let args = start .args in
     let at = c .before .loop in
-    let queued = start .pre .1 .1 .0 in
-    let n = vertices (args .starts .now) in
-    omega (arith, start .pre .0 .table .small, weigh-room n (args .levels .now) _ (take (args .tail) (args .queue .now)) (at .i) (state (at .marks) (at .support) (at .struck) (at .end)) (at .inv .1) (queued .distinct) (omega (arith, queue-length n (args .marks .now) (args .queue .now) (args .tail) queued)))
+    let queued = start .pre .1 .0 in
+    omega (arith, start .pre .0 .admitted .table .small, weigh-room (at .inv .1) (queued .distinct) (omega (arith, queue-length queued)))
 
 loop-holds : tie.Need-loop-holds Inv-loop μ-loop
 loop-holds c =
     let start = c .before .before .before .before in
     let args = start .args in
-    let room = start .pre .1 .1 .1 in
-    (search needs, weigh-start (vertices (args .starts .now)) (args .levels .now) _ (args .marks .now) (args .queue .now) (args .support .now) (args .struck .now) (args .tail) (start .pre .1 .1 .0) (room .0) (room .1))
+    let room = start .pre .1 .1 in
+    (search needs, weigh-start (start .pre .1 .0) (room .0) (room .1))
 
 mul-v : tie.Need-mul-v Inv-loop μ-loop
 mul-v c = omega (arith, few (c .before .before .before .before .before .before))
@@ -68,24 +67,24 @@ element-copy-out-v : tie.Need-element-copy-out-v Inv-loop μ-loop
 element-copy-out-v c = omega (arith, few (c .before .before .before .before .before .before))
 
 cast-v : tie.Need-cast-v Inv-loop μ-loop
-cast-v c = omega (arith, vertex (c .before), c .before .before .before .before .before .before .before .pre .0 .table .small)
+cast-v c = omega (arith, vertex (c .before), c .before .before .before .before .before .before .before .pre .0 .admitted .table .small)
 
 count-supporters-requires : tie.Need-count-supporters-requires Inv-loop μ-loop
 count-supporters-requires c κs =
     let start = c .before .before .before .before .before .before .before .before in
-    (start .pre .0, (start .pre .1 .0, vertex (c .before .before)))
+    (start .pre .0, vertex (c .before .before))
 
 mul-support : tie.Need-mul-support Inv-loop μ-loop
-mul-support c = omega (arith, vertex (c .before .before .before), c .before .before .before .before .before .before .before .before .before .pre .0 .table .small)
+mul-support c = omega (arith, vertex (c .before .before .before), c .before .before .before .before .before .before .before .before .before .pre .0 .admitted .table .small)
 
 element-write-support : tie.Need-element-write-support Inv-loop μ-loop
-element-write-support c = omega (arith, vertex (c .before .before .before), c .before .before .before .before .before .before .before .before .before .pre .0 .table .small)
+element-write-support c = omega (arith, vertex (c .before .before .before), c .before .before .before .before .before .before .before .before .before .pre .0 .admitted .table .small)
 
 strike-requires : tie.Need-strike-requires Inv-loop μ-loop
 strike-requires c κs =
     let in-loop = c .before .before .before .before .before .before in
     let start = in-loop .before .before .before .before .before .before in
-    omega (arith, vertex in-loop, room in-loop, start .pre .0 .table .small, start .pre .1 .0)
+    omega (arith, vertex in-loop, room in-loop, start .pre .0 .admitted .table .small, start .pre .0 .long)
 
 add-i : tie.Need-add-i Inv-loop μ-loop
 add-i c = search needs
@@ -99,18 +98,15 @@ loop-again c =
     let at = in-loop .before .loop in
     let start = in-loop .before .before .before .before .before .before in
     let args = start .args in
-    let n = vertices (args .starts .now) in
     let q = take (args .tail) (args .queue .now) in
     let v = getD (args .queue .now) (at .i) 0 in
-    let st = state (at .marks) (at .support) (at .struck) (at .end) in
-    let queued = start .pre .1 .1 .0 in
+    let queued = start .pre .1 .0 in
     let struck-one = c .strike .ensures in
     let total : c .before .before .before .before .count-supporters .result ≡ supportIn (args .starts .now) (args .links .now) (args .anchored .now) (args .levels .now) (args .x) q v =
     c .before .before .before .before .count-supporters .ensures
-    ∙ support-cong (args .anchored .now) (args .levels .now) (marked (at .marks)) (λ p. member p q) (args .x) v (neighbors (args .starts .now) (args .links .now) v) (marked-all n (λ p. member p q) st (at .inv .1 .listed)) in (
+    ∙ support-cong (args .anchored .now) (args .levels .now) (marked (at .marks)) (λ p. member p q) (args .x) v (neighbors (args .starts .now) (args .links .now) v) (marked-all (at .inv .1 .listed)) in (
       omega arith,
-      rw (struck-one, total) (weigh-next n (args .levels .now) (supportIn (args .starts .now) (args .links .now) (args .anchored .now) (args .levels .now) (args .x) q) q (at .i) st (at .inv .1) (queued .distinct)
-          (omega (arith, queue-length n (args .marks .now) (args .queue .now) (args .tail) queued)) v (getD-take (args .tail) (args .queue .now) (at .i) 0 (omega arith))),
+      rw (struck-one, total) (weigh-next (at .inv .1) (queued .distinct) (omega (arith, queue-length queued)) v (getD-take (args .tail) (args .queue .now) (at .i) 0 (omega arith))),
     )
 
 returns : tie.Need-returns Inv-loop μ-loop
@@ -118,12 +114,10 @@ returns c =
     let start = c .before .before .before .before .before .before in
     let args = start .args in
     let at = c .before .loop in
-    let n = vertices (args .starts .now) in
     let q = take (args .tail) (args .queue .now) in
-    let st = state (at .marks) (at .support) (at .struck) (at .end) in
-    let all : length q ≤ at .i = omega (arith, queue-length n (args .marks .now) (args .queue .now) (args .tail) (start .pre .1 .1 .0)) in (
-      weigh-end n (args .levels .now) (supportIn (args .starts .now) (args .links .now) (args .anchored .now) (args .levels .now) (args .x) q) q (at .i) st (at .inv .1) all,
-      (marked-all n (λ p. member p q) st (at .inv .1 .listed), λ v i. at .inv .1 .counted v (subst (In v) (sym (take-all (at .i) q all)) i)),
+    let all : length q ≤ at .i = omega (arith, queue-length (start .pre .1 .0)) in (
+      weigh-end (at .inv .1) all,
+      (marked-all (at .inv .1 .listed), λ v i. at .inv .1 .counted v (subst (In v) (sym (take-all (at .i) q all)) i)),
     )
 
 pub weigh-spec : {M : Type 1} → statement M

@@ -1,74 +1,85 @@
 -- `call::admit` meets its contract. Assumes nothing.
 use mathlib.Core.Path.{sym, _∙_}
-use native.Mathlib.Omega.{arith}
 use Prim.Native.Nat.{_+_}
+use native.Mathlib.Omega.{arith}
 use lib.Seq.{length-take-le}
-use Rattle.answer.proofs.Answers.{asked-large, asked-many, asked-refused, asked-sound}
+use borrow.Author.Tests.{lt-ltb, le-ltb}
+use Rattle.table.proofs.Guards.{handed, cleared}
+use Rattle.answer.specs.Answer.{askedOf}
+use Rattle.answer.proofs.Answers.{asked-tabled}
 use borrow.Author.Needs.{needs}
 use Rattle.answer.proofs.call.admit.Statement.{statement}
 use Rattle.answer.proofs.call.admit.Tie as tie
 
-refuse-requires : tie.Need-refuse-requires
-refuse-requires c κs = search needs
+refused-requires : tie.Need-refused-requires
+refused-requires c κs = search needs
 
 returns : tie.Need-returns
-returns c = c .refuse .ensures ∙ sym (asked-large (c .before .before .before .before .before .args .asked) _ _ _ (c .before .if1 .taken))
+unfolding askedOf
+returns c = simp (c .refused .ensures, lt-ltb _ _ (c .before .if1 .taken))
 
-refuse-requires-2 : tie.Need-refuse-requires-2
-refuse-requires-2 c κs = search needs
+refused-requires-2 : tie.Need-refused-requires-2
+refused-requires-2 c κs = search needs
 
 returns-2 : tie.Need-returns-2
-returns-2 c = c .refuse2 .ensures ∙ sym (asked-many (c .before .before .before .before .before .before .before .args .asked) _ _ _ (c .before .before .before .if1 .left) (c .before .if2 .taken))
+unfolding askedOf
+returns-2 c = simp (c .refused2 .ensures, le-ltb _ _ (c .before .before .before .if1 .left), lt-ltb _ _ (c .before .if2 .taken))
 
 cast-n : tie.Need-cast-n
 cast-n c = search needs
 
-add-check : tie.Need-add-check
-add-check c = search needs
+add-test-table : tie.Need-add-test-table
+add-test-table c = search needs
 
-slice-aggregate-check : tie.Need-slice-aggregate-check
-slice-aggregate-check c = let start = c .before .before .before .before .before .before .before .before in sym (length-take-le (start .args .asked .riders + 1) (start .args .starts .now) (omega (arith, start .pre .0, c .before .before .before .before .if1 .left)))
+slice-aggregate-test-table : tie.Need-slice-aggregate-test-table
+slice-aggregate-test-table c =
+    let start = c .before .before .before .before .before .before .before .before in
+    sym (length-take-le (start .args .asked .riders + 1) (start .args .starts .now) (omega (arith, start .pre .0, c .before .before .before .before .if1 .left)))
 
-slice-aggregate-check-2 : tie.Need-slice-aggregate-check-2
-slice-aggregate-check-2 c = let start = c .before .before .before .before .before .before .before .before .before in sym (length-take-le (start .args .asked .links) (start .args .links .now) (omega (arith, start .pre .1, c .before .before .before .if2 .left)))
+slice-aggregate-test-table-2 : tie.Need-slice-aggregate-test-table-2
+slice-aggregate-test-table-2 c =
+    let start = c .before .before .before .before .before .before .before .before .before in
+    sym (length-take-le (start .args .asked .links) (start .args .links .now) (omega (arith, start .pre .1, c .before .before .before .if2 .left)))
 
-check-requires : tie.Need-check-requires
-check-requires c κs = search needs
+test-table-requires : tie.Need-test-table-requires
+test-table-requires c κs = search needs
 
-enum-known-checked : tie.Need-enum-known-checked
-enum-known-checked c = search needs
+enum-known-tested : tie.Need-enum-known-tested
+enum-known-tested c = search needs
 
 enum-told : tie.Need-enum-told
 enum-told c = search needs
 
-room-for-requires : tie.Need-room-for-requires
-room-for-requires c κs = search needs
+test-room-requires : tie.Need-test-room-requires
+test-room-requires c κs = search needs
 
 returns-3 : tie.Need-returns-3
 returns-3 c =
-    let start = c .before .before .before .before .before .before .before .before .before .before .before .before .before in
-    sym (asked-refused (start .args .asked) _ _ _ (c .before .before .before .before .before .before .before .before .before .if1 .left) (c .before .before .before .before .before .before .before .if2 .left) (sym (c .before .before .before .check .ensures) ∙ c .before .checked .given .1))
+    let few = c .before .before .before .before .before .before .before in
+    let refused = sym (c .before .before .before .test-table .ensures) ∙ c .before .tested .given .1 in
+    sym (asked-tabled _ _ _ _ (few .before .before .if1 .left) (few .if2 .left) ∙ handed _ _ refused)
 
 returns-4 : tie.Need-returns-4
 returns-4 c =
-    let start = c .before .before .before .before .before .before .before .before .before .before .before .before .before in
-    c .room-for .ensures ∙ sym (asked-sound (start .args .asked) _ _ _ (c .before .before .before .before .before .before .before .before .before .if1 .left) (c .before .before .before .before .before .before .before .if2 .left) (sym (c .before .before .before .check .ensures) ∙ c .before .enum-told .given .1))
+    let few = c .before .before .before .before .before .before .before in
+    let passed = sym (c .before .before .before .test-table .ensures) ∙ c .before .enum-told .given .1 in
+    c .test-room .ensures ∙ sym (asked-tabled _ _ _ _ (few .before .before .if1 .left) (few .if2 .left) ∙ cleared _ _ passed)
 
 pub admit-spec : {M : Type 1} → statement M
 admit-spec =
     tie.close
     (tie.spec
-    refuse-requires
+    refused-requires
     returns
-    refuse-requires-2
+    refused-requires-2
     returns-2
     cast-n
-    add-check
-    slice-aggregate-check
-    slice-aggregate-check-2
-    check-requires
-    enum-known-checked
+    add-test-table
+    slice-aggregate-test-table
+    slice-aggregate-test-table-2
+    test-table-requires
+    enum-known-tested
     enum-told
-    room-for-requires
+    test-room-requires
     returns-3
     returns-4)

@@ -50,8 +50,8 @@ row c = entry (head c) .pre .0 (neighbor c) (in-at (entry (head c) .args .part .
 new-requires : tie.Need-new-requires Inv-loop μ-loop
 new-requires c κs = search needs
 
-sub-new : tie.Need-sub-new Inv-loop μ-loop
-sub-new c = search needs
+sub-t17 : tie.Need-sub-t17 Inv-loop μ-loop
+sub-t17 c = search needs
 
 new-requires-2 : tie.Need-new-requires-2 Inv-loop μ-loop
 new-requires-2 c κs = search needs
@@ -136,7 +136,7 @@ count-support-spec =
     Inv-loop
     μ-loop
     new-requires
-    sub-new
+    sub-t17
     new-requires-2
     loop-holds
     mul-w

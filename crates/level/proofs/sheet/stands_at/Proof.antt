@@ -10,17 +10,17 @@ shared-slice-read-if1 c = search needs
 returns : tie.Need-returns
 returns c = simp (eq-eqb _ _ (c .if1 .taken))
 
-mul-new : tie.Need-mul-new
-mul-new c = search needs
+mul-t10 : tie.Need-mul-t10
+mul-t10 c = search needs
 
-shared-slice-read-new : tie.Need-shared-slice-read-new
-shared-slice-read-new c = search needs
+shared-slice-read-t12 : tie.Need-shared-slice-read-t12
+shared-slice-read-t12 c = search needs
 
-mul-new-2 : tie.Need-mul-new-2
-mul-new-2 c = search needs
+mul-t14 : tie.Need-mul-t14
+mul-t14 c = search needs
 
-shared-slice-read-new-2 : tie.Need-shared-slice-read-new-2
-shared-slice-read-new-2 c = search needs
+shared-slice-read-t16 : tie.Need-shared-slice-read-t16
+shared-slice-read-t16 c = search needs
 
 new-requires : tie.Need-new-requires
 new-requires c κs = search needs
@@ -39,10 +39,10 @@ stands-at-spec =
     (tie.spec
     shared-slice-read-if1
     returns
-    mul-new
-    shared-slice-read-new
-    mul-new-2
-    shared-slice-read-new-2
+    mul-t10
+    shared-slice-read-t12
+    mul-t14
+    shared-slice-read-t16
     new-requires
     at-or-above-requires
     returns-2)

@@ -1,14 +1,16 @@
 -- `vertex::test_marking` meets its contract. Assumes nothing.
 use mathlib.Core.Path.{_≡_, sym, _∙_}
-use Rattle.table.specs.declared.Checked.the-variants.{Sound}
+use Rattle.table.specs.declared.Guard.the-variants.{Passed}
 use Rattle.shells.specs.Input.{admitOf}
 use Rattle.shells.proofs.Laws.{admitted}
-use Rattle.level.proofs.Marking.{marking-refused, marking-room, marking-vertex}
+use Rattle.level.proofs.Marking.{marking-room, marking-vertex}
+use Rattle.table.proofs.Guards.{handed}
+use Rattle.level.specs.Marking.{markingOf}
 use borrow.Author.Needs.{needs}
 use Rattle.level.proofs.vertex.test_marking.Statement.{statement}
 use Rattle.level.proofs.vertex.test_marking.Tie as tie
 
-told : (c : tie.After-enum-told) → let args = c .before .before .before .before .before .before .before .before .args in admitOf (args .starts .now) (args .links .now) (args .anchored .now) ≡ Sound
+told : (c : tie.After-enum-told) → let args = c .before .before .before .before .before .before .before .before .args in admitOf (args .starts .now) (args .links .now) (args .anchored .now) ≡ Passed
 told c = sym (c .before .before .admit .ensures) ∙ c .enum-told .given .1
 
 admit-requires : tie.Need-admit-requires
@@ -33,7 +35,8 @@ test-vertex-requires : tie.Need-test-vertex-requires
 test-vertex-requires c κs = admitted _ _ _ (told (c .before))
 
 returns-2 : tie.Need-returns-2
-returns-2 c = sym (marking-refused _ _ _ _ _ _ _ (sym (c .before .before .before .admit .ensures) ∙ c .before .admitted .given .1))
+unfolding markingOf
+returns-2 c = sym (handed _ _ (sym (c .before .before .before .admit .ensures) ∙ c .before .admitted .given .1))
 
 returns-3 : tie.Need-returns-3
 returns-3 c = c .test-vertex .ensures ∙ sym (marking-vertex _ _ _ _ _ _ _ (told (c .before .before)) (c .before .if1 .left))

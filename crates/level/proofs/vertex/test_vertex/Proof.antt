@@ -1,8 +1,10 @@
 -- `vertex::test_vertex` meets its contract. Assumes nothing.
 use mathlib.Core.Path.{_≡_, sym, _∙_}
-use Rattle.table.specs.declared.Checked.the-variants.{Sound}
+use Rattle.table.specs.declared.Guard.the-variants.{Passed}
 use Rattle.level.specs.SheetCheck.{sheetOf}
-use Rattle.level.proofs.Marking.{vertex-refused, vertex-beyond, vertex-within}
+use Rattle.level.proofs.Marking.{vertex-beyond, vertex-within}
+use Rattle.table.proofs.Guards.{handed}
+use Rattle.level.specs.Marking.{vertexOf}
 use borrow.Author.Needs.{needs}
 use Rattle.level.proofs.vertex.test_vertex.Statement.{statement}
 use Rattle.level.proofs.vertex.test_vertex.Tie as tie
@@ -11,7 +13,7 @@ abbrev entry : tie.After-test-sheet → tie.Start
 entry c = c .before .before .before .before .before .before
 
 told : (c : tie.After-enum-told) → let args = entry (c .before .before) .args in
-    sheetOf (args .starts .now) (args .links .now) (args .anchored .now) (args .levels .now) (args .layers .now) ≡ Sound
+    sheetOf (args .starts .now) (args .links .now) (args .anchored .now) (args .levels .now) (args .layers .now) ≡ Passed
 told c = sym (c .before .before .test-sheet .ensures) ∙ c .enum-told .given .1
 
 test-sheet-requires : tie.Need-test-sheet-requires
@@ -33,7 +35,8 @@ returns : tie.Need-returns
 returns c = c .refused .ensures ∙ sym (vertex-beyond _ _ _ _ _ _ (told (c .before .before)) (c .before .if1 .taken))
 
 returns-2 : tie.Need-returns-2
-returns-2 c = sym (vertex-refused _ _ _ _ _ _ (sym (c .before .before .before .test-sheet .ensures) ∙ c .before .accepted .given .1))
+unfolding vertexOf
+returns-2 c = sym (handed _ _ (sym (c .before .before .before .test-sheet .ensures) ∙ c .before .accepted .given .1))
 
 returns-3 : tie.Need-returns-3
 returns-3 c = sym (vertex-within _ _ _ _ _ _ (told (c .before)) (c .if1 .left))

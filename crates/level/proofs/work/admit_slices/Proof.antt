@@ -1,17 +1,19 @@
 -- `work::admit_slices` meets its contract. Assumes nothing.
 use mathlib.Core.Path.{_≡_, sym, _∙_}
-use Rattle.table.specs.declared.Checked.the-variants.{Sound}
+use Rattle.table.specs.declared.Guard.the-variants.{Passed}
 use Rattle.shells.specs.Input.{admitOf}
 use Rattle.shells.proofs.Laws.{admitted}
-use Rattle.level.proofs.Answers.{work-refused, work-lent}
+use Rattle.level.proofs.Answers.{work-lent}
+use Rattle.table.proofs.Guards.{handed}
+use Rattle.level.specs.Answers.{workOf}
 use borrow.Author.Needs.{needs}
 use Rattle.level.proofs.work.admit_slices.Statement.{statement}
 use Rattle.level.proofs.work.admit_slices.Tie as tie
 
 abbrev entry : tie.After-admit → tie.Start
-entry c = c .before .before .before .before
+entry c = c .before .before .before .before .before
 
-told : (c : tie.After-enum-told) → let args = entry (c .before .before) .args in admitOf (args .starts .now) (args .links .now) (args .anchored .now) ≡ Sound
+told : (c : tie.After-enum-told) → let args = entry (c .before .before) .args in admitOf (args .starts .now) (args .links .now) (args .anchored .now) ≡ Passed
 told c = sym (c .before .before .admit .ensures) ∙ c .enum-told .given .1
 
 admit-requires : tie.Need-admit-requires
@@ -23,27 +25,28 @@ enum-known-admitted c = search needs
 enum-told : tie.Need-enum-told
 enum-told c = search needs
 
-sub-are-of : tie.Need-sub-are-of
-sub-are-of c = admitted _ _ _ (told c) .table .framed .some
+sub-all-are : tie.Need-sub-all-are
+sub-all-are c = admitted _ _ _ (told c) .table .framed .some
 
-are-of-requires : tie.Need-are-of-requires
-are-of-requires c κs = search needs
+all-are-requires : tie.Need-all-are-requires
+all-are-requires c κs = search needs
 
 returns : tie.Need-returns
 returns c =
     let tested = c .before in
-    sym (work-lent _ _ _ _ _ _ (told (tested .before)) (sym (tested .are-of .ensures) ∙ c .if1 .taken))
+    sym (work-lent _ _ _ _ (told (tested .before)) (sym (tested .all-are .ensures) ∙ c .if1 .taken))
 
 refused-requires : tie.Need-refused-requires
 refused-requires c κs = search needs
 
 returns-2 : tie.Need-returns-2
-returns-2 c = sym (work-refused _ _ _ _ _ _ (sym (c .before .before .before .admit .ensures) ∙ c .before .admitted .given .1))
+unfolding workOf
+returns-2 c = sym (handed _ _ (sym (c .before .before .before .admit .ensures) ∙ c .before .admitted .given .1))
 
 returns-3 : tie.Need-returns-3
 returns-3 c =
     let tested = c .before .before in
-    c .refused .ensures ∙ sym (work-lent _ _ _ _ _ _ (told (tested .before)) (sym (tested .are-of .ensures) ∙ c .before .if1 .left))
+    c .refused .ensures ∙ sym (work-lent _ _ _ _ (told (tested .before)) (sym (tested .all-are .ensures) ∙ c .before .if1 .left))
 
 pub admit-slices-spec : {M : Type 1} → statement M
 admit-slices-spec =
@@ -52,8 +55,8 @@ admit-slices-spec =
     admit-requires
     enum-known-admitted
     enum-told
-    sub-are-of
-    are-of-requires
+    sub-all-are
+    all-are-requires
     returns
     refused-requires
     returns-2

@@ -1,5 +1,4 @@
 -- `work::fill` meets its contract. Assumes nothing.
-use native.Mathlib.Omega.{arith}
 use borrow.Author.Needs.{needs}
 use Rattle.level.proofs.work.fill.Statement.{statement}
 use Rattle.level.proofs.work.fill.Tie as tie
@@ -8,10 +7,7 @@ peel-requires : tie.Need-peel-requires
 peel-requires c κs = search needs
 
 flood-requires : tie.Need-flood-requires
-flood-requires c κs =
-    let called = c .before .before .before in
-    let start = called .before .before .before .before .before .before in
-    (start .pre, (omega (arith, start .pre .table .small, c .before .flood-arg2 .given .0), called .peel .ensures .0))
+flood-requires c κs = c .before .before .before .peel .ensures .leveled
 
 returns : tie.Need-returns
 returns c = search needs

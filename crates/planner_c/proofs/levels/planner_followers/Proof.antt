@@ -1,4 +1,6 @@
 use mathlib.Core.Path.{ap, _∙_}
+use Rattle.table.proofs.Guards.{answer-as}
+use Rattle.search.specs.Answers.{followersOf}
 use Rattle.numbers.specs.Numbers.{searchedAs}
 use borrow.Author.Needs.{needs}
 use Rattle.planner_c.proofs.levels.planner_followers.Statement.{statement}
@@ -14,10 +16,10 @@ same-length : tie.Need-same-length
 same-length c = search needs
 
 returns : tie.Need-returns
+unfolding followersOf
 returns c =
     let w = c .before .before .before .followers .ensures in
-    let e = w .0 in
-    (c .of-searched .ensures ∙ ap searchedAs e, rw e at (w .1))
+    (c .of-searched .ensures ∙ ap searchedAs (w .0) ∙ answer-as searchedAs _ _ _, w .1)
 
 pub planner-followers-spec : {M : Type 1} → statement M
 planner-followers-spec =

@@ -1,4 +1,6 @@
 use mathlib.Core.Path.{ap, _∙_}
+use Rattle.table.proofs.Guards.{answer-as}
+use Rattle.components.specs.Answers.{listOf}
 use Rattle.numbers.specs.Numbers.{listedAs}
 use borrow.Author.Needs.{needs}
 use Rattle.planner_c.proofs.levels.planner_list_components.Statement.{statement}
@@ -20,10 +22,10 @@ same-length-3 : tie.Need-same-length-3
 same-length-3 c = search needs
 
 returns : tie.Need-returns
+unfolding listOf
 returns c =
     let w = c .before .before .before .before .before .before .before .list-components .ensures in
-    let e = w .0 in
-    (c .of-listed .ensures ∙ ap listedAs e, rw e at (w .1))
+    (c .of-listed .ensures ∙ ap listedAs (w .0) ∙ answer-as listedAs _ _ _, w .1, w .2, w .3)
 
 pub planner-list-components-spec : {M : Type 1} → statement M
 planner-list-components-spec =

@@ -1,8 +1,4 @@
-use mathlib.Core.Path.{_≡_, ap, _∙_}
-use mathlib.Core.List.{List}
-use Prim.Native.Nat.{ℕ}
-use Rattle.answer.specs.declared.call.Answered.{Answered}
-use Rattle.answer.specs.Answer.{lent}
+use mathlib.Core.Path.{ap, _∙_}
 use Rattle.numbers.specs.Numbers.{answeredAs}
 use borrow.Author.Needs.{needs}
 use Rattle.planner_c.proofs.texts.planner_text_to_sheet.Statement.{statement}
@@ -17,14 +13,10 @@ of-answered-requires c κs = search needs
 same-length : tie.Need-same-length
 same-length c = search needs
 
--- lent bytes by an answer, said of the answer's definition
-lent-as : {r s : Answered} {now : List ℕ} (sheet old : List ℕ) → r ≡ s → now ≡ lent r sheet old → now ≡ lent s sheet old
-lent-as sheet old e h = h ∙ ap (λ x. lent x sheet old) e
-
 returns : tie.Need-returns
 returns c =
     let w = c .before .before .before .text-to-sheet .ensures in
-    (c .of-answered .ensures ∙ ap answeredAs (w .0), lent-as _ _ (w .0) (w .1))
+    (c .of-answered .ensures ∙ ap answeredAs (w .0), w .1)
 
 pub planner-text-to-sheet-spec : {M : Type 1} → statement M
 planner-text-to-sheet-spec =

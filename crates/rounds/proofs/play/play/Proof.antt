@@ -1,9 +1,11 @@
 -- `play::play` meets its contract. Assumes nothing.
+use mathlib.Core.Path.{sym}
 use Prim.Native.Nat.{_<_}
 use native.Mathlib.Omega.{arith}
 use borrow.Author.Needs.{needs}
+use Rattle.shells.proofs.Sheet.{in-arrays}
 use Rattle.table.specs.Table.{vertices}
-use Rattle.rounds.proofs.Playing.{chosen-low, chosen-free, written-some, written-none, stands-some, stands-none}
+use Rattle.rounds.proofs.Playing.{chosen-low, chosen-free, written-some, written-none, keeps-some, keeps-none}
 use Rattle.rounds.proofs.play.play.Statement.{statement}
 use Rattle.rounds.proofs.play.play.Tie as tie
 
@@ -13,13 +15,13 @@ entry c = c .before .before .before .before .before .before .before .before
 
 -- where there is a choice, and the search from it
 abbrev some : tie.After-search → tie.Else1
-some c = c .before .before .before .before .before .before .before
+some c = c .before .before .before .before .before .before .before .before
 
-abbrev searched : tie.After-after → tie.After-search
+abbrev searched : tie.After-next → tie.After-search
 searched c = c .before .before .before .before .before .before .before .before
 
 low : (c : tie.Else1) → c .before .choose .result < vertices (entry (c .before) .args .starts .now)
-low c = chosen-low _ _ _ _ _ _ _ (entry (c .before) .pre .0) _ (c .before .choose .ensures) (c .if1 .left)
+low c = chosen-low (entry (c .before) .pre .0) (c .before .choose .ensures) (c .if1 .left)
 
 sub-n : tie.Need-sub-n
 sub-n c = search needs
@@ -39,13 +41,7 @@ returns c =
     let start = entry (none .before) in
     let right = start .pre .0 in
     let found = none .before .choose .ensures in
-    let stamps = start .args .old .stamp in (
-      right,
-      (
-        stands-none _ _ _ _ _ _ _ right _ found stamps _ (none .if1 .taken) (start .pre .1 .0),
-        written-none _ _ _ _ _ _ _ right _ found stamps _ 1024 (none .if1 .taken) (c .before .before .put-line .ensures),
-      ),
-    )
+    (keeps-none right found _ (none .if1 .taken), written-none right found _ 1024 (none .if1 .taken) (c .before .before .put-line .ensures))
 
 slice-aggregate-search : tie.Need-slice-aggregate-search
 slice-aggregate-search c = search needs
@@ -58,17 +54,10 @@ slice-aggregate-search-3 c = search needs
 
 search-requires : tie.Need-search-requires
 search-requires c κs =
-    let some = c .before .before .before .before .before .before in
-    let right = entry (some .before) .pre .0 in
-    let admitted = right .sheet .admitted in (
-      admitted,
-      (
-        omega (arith, admitted .table .small, slice-aggregate-search-2 (c .before .before)),
-        (
-          omega (arith, admitted .table .small, slice-aggregate-search-3 (c .before)),
-          (right .sheet .levels, (right .sheet .layers, (low some, chosen-free _ _ _ _ _ _ _ right _ (some .before .choose .ensures) (low some)))),
-        ),
-      ),
+    let some = c .before .before .before .before .before .before .before in
+    let right = entry (some .before) .pre .0 in (
+      in-arrays (right .admitted) (sym (slice-aggregate-search-2 (c .before .before))) (sym (slice-aggregate-search-3 (c .before))) (right .columns .levels) (right .columns .layers),
+      (low some, chosen-free right (some .before .choose .ensures) (low some)),
     )
 
 step-requires : tie.Need-step-requires
@@ -76,13 +65,13 @@ step-requires c κs = search needs
 
 cast-t37 : tie.Need-cast-t37
 cast-t37 c =
-    let some = some (c .before .before .before) in
-    omega (arith, low some, entry (some .before) .pre .0 .sheet .admitted .table .small)
+    let some = some (c .before .before) in
+    omega (arith, low some, entry (some .before) .pre .0 .admitted .table .small)
 
 put-line-requires-2 : tie.Need-put-line-requires-2
 put-line-requires-2 c κs =
     let pre = entry (some (c .before .before .before .before) .before) .pre in
-    (pre .0 .sheet .admitted .table .small, pre .1 .1)
+    (pre .0 .admitted .table .small, pre .1)
 
 same-length-2 : tie.Need-same-length-2
 same-length-2 c = search needs
@@ -94,14 +83,8 @@ returns-2 c =
     let start = entry (some .before) in
     let right = start .pre .0 in
     let found = some .before .choose .ensures in
-    let stamps = start .args .old .stamp in
-    let stepped = c .before .before .before .before .before .before .before .step .ensures in (
-      stepped .0,
-      (
-        stands-some _ _ _ _ _ _ _ right _ found stamps _ (stepped .1 .0),
-        written-some _ _ _ _ _ _ _ right _ found stamps _ (search .last .1 .1 .1 .1 .1 .1 .0) _ _ _ (low some) (search .ensures .0) (stepped .1 .1) (c .before .before .before .put-line2 .ensures),
-      ),
-    )
+    let stepped = c .before .before .before .before .before .before .before .step .ensures in
+    (keeps-some right found stepped, written-some right found _ (search .last .1 .1 .1 .1 .1 .1 .0) (low some) (search .ensures .0) stepped (c .before .before .before .put-line2 .ensures))
 
 pub play-spec : {M : Type 1} → statement M
 play-spec =

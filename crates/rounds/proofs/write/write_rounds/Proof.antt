@@ -13,7 +13,7 @@ use Rattle.rounds.proofs.write.write_rounds.Statement.{statement}
 use Rattle.rounds.proofs.write.write_rounds.Tie as tie
 
 abbrev Inv-loop : tie.InvT-loop
-Inv-loop starts links given rounds out₀ kept₀ at₀ i₀ out kept at i = (i ≤ rounds) × Playing starts links given out₀ out (kept .anchored) (kept .level) (kept .layer) (kept .component) (kept .followers) (kept .stamp) at i
+Inv-loop starts links given rounds out₀ kept₀ at₀ i₀ out kept at i = (i ≤ rounds) × Playing starts links given out₀ out kept at i
 
 abbrev μ-loop : tie.MeasureT-loop
 μ-loop starts links given rounds out₀ kept₀ at₀ i₀ out kept at i = rounds - i
@@ -28,7 +28,7 @@ begin-requires c κs =
     (pre .0, pre .1 .0)
 
 loop-holds : tie.Need-loop-holds Inv-loop μ-loop
-loop-holds c = (omega arith, playing-none _ _ _ _ _ _ _ _ _ _ (c .begin .ensures .0) (c .begin .ensures .1))
+loop-holds c = (omega arith, playing-none (c .begin .ensures))
 
 add-play : tie.Need-add-play Inv-loop μ-loop
 add-play c = search needs
@@ -37,10 +37,10 @@ play-requires : tie.Need-play-requires Inv-loop μ-loop
 play-requires c κs =
     let head = c .before .before in
     let now = head .loop .inv .1 in
-    (now .right, (now .stands .stamps-long, playing-room _ _ _ _ _ _ _ _ _ _ _ _ _ now _ (c .before .loop-test .taken) (entry head .pre .1 .1)))
+    (now .keeps .right, playing-room now _ (c .before .loop-test .taken) (entry head .pre .1 .1))
 
 add-i : tie.Need-add-i Inv-loop μ-loop
-add-i c = search needs
+add-i c = add-play (c .before .before .before .before .before)
 
 loop-less : tie.Need-loop-less Inv-loop μ-loop
 loop-less c = search needs
@@ -49,10 +49,10 @@ loop-again : tie.Need-loop-again Inv-loop μ-loop
 loop-again c =
     let head = c .before .before .before .before .before .before in
     let round = c .before .before .before .play .ensures in
-    (omega (arith, c .before .before .before .before .before .loop-test .taken), playing-more _ _ _ _ _ _ _ _ _ _ _ _ _ (head .loop .inv .1) _ _ _ _ _ _ _ _ (round .0) (round .1 .0) (round .1 .1))
+    (omega (arith, c .before .before .before .before .before .loop-test .taken), playing-more (head .loop .inv .1) (round .0) (round .1))
 
 same-length : tie.Need-same-length Inv-loop μ-loop
-same-length c = playing-length _ _ _ _ _ _ _ _ _ _ _ _ _ (c .before .loop .inv .1)
+same-length c = playing-length (c .before .loop .inv .1)
 
 returns : tie.Need-returns Inv-loop μ-loop
 returns c =

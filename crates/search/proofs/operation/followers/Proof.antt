@@ -1,15 +1,16 @@
 -- `operation::followers` meets its contract: a refusal is handed on, and without one the marks are written. Assumes nothing.
-use mathlib.Core.Path.{_≡_, refl, sym, _∙_}
+use mathlib.Core.Path.{_≡_, sym, _∙_}
 use lib.ListN.{length}
-use Rattle.table.specs.declared.Checked.the-variants.{Sound}
-use Rattle.search.specs.Answers.{searchOf}
-use Rattle.search.proofs.Answers.{search-sound, followers-refused, followers-found}
+use Rattle.table.specs.declared.Guard.the-variants.{Passed}
+use Rattle.table.proofs.Guards.{handed, cleared}
+use Rattle.search.specs.Answers.{searchOf, followersOf}
+use Rattle.search.proofs.Answers.{search-sound, followers-found}
 use borrow.Author.Needs.{needs}
 use Rattle.search.proofs.operation.followers.Statement.{statement}
 use Rattle.search.proofs.operation.followers.Tie as tie
 
 told : (c : tie.After-enum-told) → let args = c .before .before .before .before .before .before .before .before .before .args in
-    searchOf (args .starts .now) (args .links .now) (args .anchored .now) (args .levels .now) (args .layers .now) (args .x) (length (args .marks .now)) ≡ Sound
+    searchOf (args .starts .now) (args .links .now) (args .anchored .now) (args .levels .now) (args .layers .now) (args .x) (length (args .marks .now)) ≡ Passed
 told c = sym (c .before .before .test-search .ensures) ∙ c .enum-told .given .1
 
 test-search-requires : tie.Need-test-search-requires
@@ -27,7 +28,10 @@ write-marks-requires c κs =
     (promised .0, (promised .1, ((promised .2, promised .3), promised .4)))
 
 returns : tie.Need-returns
-returns c = (sym (followers-refused _ _ _ _ _ _ _ (sym (c .before .before .before .test-search .ensures) ∙ c .before .tested .given .1)), refl)
+unfolding followersOf
+returns c =
+    let refused = sym (c .before .before .before .test-search .ensures) ∙ c .before .tested .given .1 in
+    (sym (handed _ _ refused), sym (handed _ _ refused))
 
 same-length : tie.Need-same-length
 same-length c = c .before .before .write-marks .kept .1 .1 .1 .1 .1 .1 .0
@@ -35,8 +39,8 @@ same-length c = c .before .before .write-marks .kept .1 .1 .1 .1 .1 .1 .0
 returns-2 : tie.Need-returns-2
 returns-2 c =
     let written = c .before .before in
-    let answer = written .write-marks .ensures .0 in
-    (answer ∙ sym (followers-found _ _ _ _ _ _ _ (told (written .before .before))), rw answer (written .write-marks .ensures .1))
+    let passed = told (written .before .before) in
+    (written .write-marks .ensures .0 ∙ sym (followers-found _ _ _ _ _ _ _ passed), written .write-marks .ensures .1 ∙ sym (cleared _ _ passed))
 
 pub followers-spec : {M : Type 1} → statement M
 followers-spec =

@@ -3,6 +3,7 @@ use mathlib.Core.Path.{ap₂}
 use native.Mathlib.Omega.{arith}
 use Rattle.search.specs.declared.operation.Searched.the-variants.{Found}
 use Rattle.shells.proofs.Arrays.{copied}
+use Rattle.level.proofs.Sheets.{accepted-sheet}
 use Rattle.search.proofs.operation.write_marks.Statement.{statement}
 use Rattle.search.proofs.operation.write_marks.Tie as tie
 
@@ -15,8 +16,7 @@ searched c = c .before .before .before .before .before
 search-requires : tie.Need-search-requires
 search-requires c κs =
     let pre = c .before .before .before .before .before .before .before .pre in
-    let sheet = pre .1 .0 in
-    (pre .0, (omega (arith, sheet .levels-long), (omega (arith, sheet .layers-long), (sheet .levels-hold, (sheet .layers-hold, (pre .1 .1 .0 .0, pre .1 .1 .0 .1))))))
+    (accepted-sheet (pre .0) (pre .1 .0), (pre .1 .1 .0 .0, pre .1 .1 .0 .1))
 
 copy-bytes-requires : tie.Need-copy-bytes-requires
 copy-bytes-requires c κs =

@@ -1,6 +1,9 @@
 -- `run::run` meets its contract: demand 3 for every session that is not refused. Assumes nothing.
-use mathlib.Core.Path.{_≡_, refl, sym, _∙_}
-use Rattle.table.specs.declared.Checked.the-variants.{Sound}
+use mathlib.Core.Path.{_≡_, sym, _∙_}
+use Prim.Native.Nat.{ℕ}
+use native.Mathlib.Omega.{arith}
+use Rattle.table.specs.declared.Guard.the-variants.{Passed}
+use Rattle.table.proofs.Guards.{handed, cleared}
 use Rattle.session.specs.Run.{slices, runOf}
 use Rattle.session.proofs.Serving.{run-ready}
 use Rattle.session.proofs.Claims.{session-claim}
@@ -9,13 +12,19 @@ use Rattle.session.proofs.run.run.Statement.{statement}
 use Rattle.session.proofs.run.run.Tie as tie
 
 -- the answer is that nothing is refused
-told : (c : tie.After-enum-told) → let args = c .before .before .before .before .before .before .before .before .before .before .before .before .before .before .before .before .args in
-    runOf (args .starts .now) (args .links .now) (args .given .now) (args .requests .now) (slices (args .anchored .now) (args .levels .now) (args .layers .now) (args .components .now) (args .followers .now) (args .stamps .now) (args .status .now) (args .lifted .now) (args .redone .now)) ≡ Sound
+told : (c : tie.After-enum-told) → let args = c .before .before .before .before .before .before .before .before .before .before .before .before .before .before .before .before .before .before .args in
+    runOf (args .starts .now) (args .links .now) (args .given .now) (args .requests .now) (slices (args .anchored .now) (args .levels .now) (args .layers .now) (args .components .now) (args .followers .now) (args .stamps .now) (args .status .now) (args .lifted .now) (args .redone .now)) ≡ Passed
 told c = sym (c .before .before .admit .ensures) ∙ c .enum-told .given .1
 
 -- the call, seen from the end
 abbrev called : tie.After-slice-known18 → tie.After-write
 called c = c .before .before .before .before .before .before .before .before .before .before .before .before .before .before .before .before .before .before
+
+slice-aggregate-admit : tie.Need-slice-aggregate-admit
+slice-aggregate-admit c = search needs
+
+slice-aggregate-admit-2 : tie.Need-slice-aggregate-admit-2
+slice-aggregate-admit-2 c = search needs
 
 admit-requires : tie.Need-admit-requires
 admit-requires c κs = search needs
@@ -29,15 +38,15 @@ enum-told c = search needs
 write-requires : tie.Need-write-requires
 write-requires c κs =
     let told-at = c .before .before .before .before .before .before .before .before .before in
-    let args = told-at .before .before .before .before .before .before .before .before .before .before .before .before .before .before .before .before .args in
+    let args = told-at .before .before .before .before .before .before .before .before .before .before .before .before .before .before .before .before .before .before .args in
     run-ready (args .starts .now) (args .links .now) (args .given .now) (args .requests .now)
     (slices (args .anchored .now) (args .levels .now) (args .layers .now) (args .components .now) (args .followers .now) (args .stamps .now) (args .status .now) (args .lifted .now) (args .redone .now))
     (told told-at)
 
 returns : tie.Need-returns
 returns c =
-    let answer = sym (c .before .admitted .given .1) ∙ c .before .before .before .admit .ensures in
-    (answer, (refl, λ e. session-claim _ _ _ _ _ (sym answer ∙ e)))
+    let refused = sym (c .before .before .before .admit .ensures) ∙ c .before .admitted .given .1 in
+    ((sym (handed _ _ refused), sym (handed _ _ refused)), λ e. let z : _≡_ {A = ℕ} 0 1 = cc in absurd (omega arith))
 
 same-length : tie.Need-same-length
 same-length c = called c .write .kept .1 .1 .1 .1 .0
@@ -68,13 +77,15 @@ same-length-9 c = called c .write .kept .1 .1 .1 .1 .1 .1 .1 .1 .1 .1 .1 .1 .0
 
 returns-2 : tie.Need-returns-2
 returns-2 c =
-    let answer = told (called c .before .before .before .before .before .before .before .before .before .before) in
-    (sym answer, (called c .write .ensures, λ e. session-claim _ _ _ _ _ answer))
+    let passed = told (called c .before .before .before .before .before .before .before .before .before .before) in
+    ((sym (cleared _ _ passed), called c .write .ensures ∙ sym (cleared _ _ passed)), λ e. session-claim _ _ _ _ _ passed)
 
 pub run-spec : {M : Type 1} → statement M
 run-spec =
     tie.close
     (tie.spec
+    slice-aggregate-admit
+    slice-aggregate-admit-2
     admit-requires
     enum-known-admitted
     enum-told

@@ -3,15 +3,14 @@ use mathlib.Core.Path.{_≡_, subst}
 use Prim.Native.Nat.{_-_, _≤_}
 use native.Mathlib.Omega.{arith}
 use lib.ListN.{length}
-use Rattle.table.specs.Table.{vertices}
-use Rattle.step.specs.Rows.{Stands, sessionOf}
+use Rattle.step.specs.Record.{Keeps, sessionOf}
 use Rattle.session.proofs.Serving.{Serving, serving-none, serving-more, filled-all}
 use Rattle.session.proofs.run.serve.Statement.{statement}
 use Rattle.session.proofs.run.serve.Tie as tie
 use borrow.Author.Needs.{needs}
 
 abbrev Inv-loop : tie.InvT-loop
-Inv-loop starts links given requests status₀ lifted₀ redone₀ kept₀ i₀ status lifted redone kept i = (i ≤ length requests) × Serving starts links given requests status₀ lifted₀ redone₀ status lifted redone (kept .anchored) (kept .level) (kept .layer) (kept .component) (kept .followers) (kept .stamp) i
+Inv-loop starts links given requests status₀ lifted₀ redone₀ kept₀ i₀ status lifted redone kept i = (i ≤ length requests) × Serving starts links given requests status₀ lifted₀ redone₀ status lifted redone kept i
 
 abbrev μ-loop : tie.MeasureT-loop
 μ-loop starts links given requests status₀ lifted₀ redone₀ kept₀ i₀ status lifted redone kept i = length requests - i
@@ -26,7 +25,7 @@ begin-requires c κs =
     (pre .0, pre .1 .0)
 
 loop-holds : tie.Need-loop-holds Inv-loop μ-loop
-loop-holds c = (omega arith, serving-none _ _ _ _ _ _ _ _ _ _ _ _ _ (c .begin .ensures .0) (c .begin .ensures .1))
+loop-holds c = (omega arith, serving-none (c .begin .ensures))
 
 mul-step : tie.Need-mul-step Inv-loop μ-loop
 mul-step c = search needs
@@ -44,9 +43,7 @@ add-step : tie.Need-add-step Inv-loop μ-loop
 add-step c = omega (arith, c .before .loop-test .taken, start (c .before .before) .pre .1 .1 .0)
 
 step-requires : tie.Need-step-requires Inv-loop μ-loop
-step-requires c κs =
-    let serving = c .before .before .loop .inv .1 in
-    (serving .right, serving .stands .stamps-long)
+step-requires c κs = c .before .before .loop .inv .1 .keeps .right
 
 mul-status : tie.Need-mul-status Inv-loop μ-loop
 mul-status c = omega (arith, c .before .before .before .before .loop-test .taken, start (c .before .before .before .before .before) .pre .1 .1 .0)
@@ -78,10 +75,7 @@ loop-again c =
     let pre = start head .pre in
     let taken = c .before .before .before .before .loop-test .taken in
     let serving = head .loop .inv .1 in
-    let done = c .before .before .step .ensures in (
-      omega (arith, taken),
-      serving-more _ _ _ _ _ _ _ _ _ _ _ _ _ _ _ _ (head .loop .i) serving (omega (arith, taken, pre .1 .1 .1 .0)) (omega (arith, taken, pre .1 .1 .1 .1 .0)) (omega (arith, taken, pre .1 .1 .1 .1 .1)) _ _ _ _ _ _ _ _ _ (done .0) (done .1 .0) (done .1 .1),
-    )
+    (omega (arith, taken), serving-more serving (omega (arith, taken, pre .1 .1 .1 .0)) (omega (arith, taken, pre .1 .1 .1 .1 .0)) (omega (arith, taken, pre .1 .1 .1 .1 .1)) (c .before .before .step .ensures))
 
 same-length : tie.Need-same-length Inv-loop μ-loop
 same-length c = c .before .loop .inv .1 .statuses .long
@@ -99,13 +93,10 @@ returns c =
     let serving = head .loop .inv .1 in
     let args = start head .args in
     let end : head .loop .i ≡ length (args .requests .now) = omega (arith, head .loop .inv .0, c .loop-test .left) in (
-      serving .right,
+      subst (λ k. Keeps (args .starts .now) (args .links .now) (head .loop .kept) (sessionOf (args .starts .now) (args .links .now) (args .given .now) (args .requests .now) k)) end (serving .keeps),
       (
-        subst (λ k. Stands (vertices (args .starts .now)) (head .loop .kept .anchored) (head .loop .kept .stamp) (sessionOf (args .starts .now) (args .links .now) (args .given .now) (args .requests .now) k)) end (serving .stands),
-        (
-          filled-all _ _ _ _ _ (serving .statuses) end (pre .1 .1 .1 .0),
-          (filled-all _ _ _ _ _ (serving .lifts) end (pre .1 .1 .1 .1 .0), filled-all _ _ _ _ _ (serving .redos) end (pre .1 .1 .1 .1 .1)),
-        ),
+        filled-all _ _ _ _ _ (serving .statuses) end (pre .1 .1 .1 .0),
+        (filled-all _ _ _ _ _ (serving .lifts) end (pre .1 .1 .1 .1 .0), filled-all _ _ _ _ _ (serving .redos) end (pre .1 .1 .1 .1 .1)),
       ),
     )
 

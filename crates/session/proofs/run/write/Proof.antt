@@ -4,7 +4,7 @@ use mathlib.Core.List.{List}
 use Prim.Native.Nat.{ℕ}
 use native.Mathlib.Omega.{arith}
 use Rattle.session.specs.Run.{slices}
-use Rattle.session.proofs.Serving.{copied-out, end-anchored, end-levels, end-layers, end-components, end-counts}
+use Rattle.session.proofs.Serving.{copied-out, end-anchored, end-columns, end-counts}
 use Rattle.session.proofs.run.write.Statement.{statement}
 use Rattle.session.proofs.run.write.Tie as tie
 
@@ -77,15 +77,15 @@ returns c =
     let sheet = sheet-copied c .copy-sheet .ensures in
     let rows = rows-copied c .copy-rows .ensures in
     same-slices
-    (copied-out _ (kept .anchored) _ _ _ (rows .0) (pre .anchored-long) (end-anchored _ _ _ _ _ _ _ _ _ (end .0) (end .1 .0)))
-    (copied-out _ (kept .level) _ _ _ (sheet .0) (pre .levels-long) (end-levels _ _ _ _ _ _ _ _ _ (end .0) (end .1 .0)))
-    (copied-out _ (kept .layer) _ _ _ (sheet .1 .0) (pre .layers-long) (end-layers _ _ _ _ _ _ _ _ _ (end .0) (end .1 .0)))
-    (copied-out _ (kept .component) _ _ _ (sheet .1 .1) (pre .components-long) (end-components _ _ _ _ _ _ _ _ _ (end .0) (end .1 .0)))
-    (copied-out _ (kept .followers) _ _ _ (rows .1 .0) (pre .followers-long) (end-counts _ _ _ _ _ _ _ _ _ (end .0) (end .1 .0)))
-    (copied-out _ (kept .stamp) _ _ _ (rows .1 .1) (pre .stamps-long) (end .1 .0 .stamps))
+    (copied-out _ (kept .anchored) _ _ _ (rows .0) (pre .anchored-long) (end-anchored (end .0)))
+    (copied-out _ (kept .columns .level) _ _ _ (sheet .0) (pre .levels-long) (end-columns (end .0) .levels))
+    (copied-out _ (kept .columns .layer) _ _ _ (sheet .1 .0) (pre .layers-long) (end-columns (end .0) .layers))
+    (copied-out _ (kept .columns .component) _ _ _ (sheet .1 .1) (pre .components-long) (end-columns (end .0) .components))
+    (copied-out _ (kept .followers) _ _ _ (rows .1 .0) (pre .followers-long) (end-counts (end .0)))
+    (copied-out _ (kept .stamp) _ _ _ (rows .1 .1) (pre .stamps-long) (end .0 .stands .stamps))
+    (end .1 .0)
     (end .1 .1 .0)
-    (end .1 .1 .1 .0)
-    (end .1 .1 .1 .1)
+    (end .1 .1 .1)
 
 pub write-spec : {M : Type 1} → statement M
 write-spec =

@@ -27,28 +27,28 @@ pend-requires : tie.Need-pend-requires Inv-loop μ-loop
 pend-requires c κs =
     let given = c .before .before .before .before .before .before .pre in
     let long = length-replicate {A = ℕ} 1024 0 in
-    omega (arith, given .1 .0, given .0 .table .small)
+    omega (arith, given .long, given .admitted .table .small)
 
 loop-holds : tie.Need-loop-holds Inv-loop μ-loop
 loop-holds c =
     let given = c .before .before .before .before .before .before .before .pre in
-    let table = given .0 .table in
+    let table = given .admitted .table in
     let labels = length-replicate {A = ℕ} 1024 65535 in
     let queue = length-replicate {A = ℕ} 1024 0 in
     let none : Holds (replicate 1024 65535) (vertices (c .before .before .before .before .before .before .before .args .starts .now)) (λ v. 65535) = λ v b. getD-replicate {A = ℕ} 1024 v 65535 0 (omega (arith, table .small)) in
     let pending = c .pend .ensures in (
       omega arith,
       record {
-        admitted = given .0;
+        admitted = given .admitted;
         flooding = begin _ _ (omega (arith, table .small)) (omega (arith, table .small)) none;
-        pends = pends-begin _ _ (omega (arith, table .small, pending .0)) (λ v b. pending .1 v b ∙ given .1 .1 v b) none;
+        pends = pends-begin _ _ (omega (arith, table .small, pending .0)) (λ v b. pending .1 v b ∙ given .hold v b) none;
       },
     )
 
 shared-slice-read-if1 : tie.Need-shared-slice-read-if1 Inv-loop μ-loop
 shared-slice-read-if1 c =
     let given = c .before .before .before .before .before .before .before .before .before .before .pre in
-    omega (arith, given .0 .long, c .before .loop-test .taken)
+    omega (arith, given .admitted .long, c .before .loop-test .taken)
 
 mul-if2 : tie.Need-mul-if2 Inv-loop μ-loop
 mul-if2 c = search needs
@@ -63,7 +63,7 @@ spread-requires c κs =
     record {
       bytes = start .args .anchored .now;
       floods = at .loop .inv .1;
-      free = byte-free _ _ _ (start .pre .0) _ (c .before .before .before .before .before .if1 .taken);
+      free = byte-free (start .args .anchored .now) (at .loop .start) (c .before .before .before .before .before .if1 .taken);
       vertex = omega arith;
       none = of-true _ (c .before .before .before .if2 .taken);
     }
@@ -77,14 +77,15 @@ loop-less c = search needs
 loop-again : tie.Need-loop-again Inv-loop μ-loop
 loop-again c =
     let at = c .before .before .before in
-    let admitted = at .before .before .before .before .before .before .before .before .pre .0 in
+    let start = at .before .before .before .before .before .before .before .before in
+    let admitted = start .pre .admitted in
     let floods = at .loop .inv .1 in
     ⊎-elim
-    (λ way. rw (way .7, way .8, way .9, way .10) (omega arith, way .6 .ensures .moves _ floods (byte-free _ _ _ admitted _ (way .0 .taken))))
+    (λ way. rw (way .7, way .8, way .9, way .10) (omega arith, way .6 .ensures .moves _ floods (byte-free (start .args .anchored .now) (at .loop .start) (way .0 .taken))))
     (λ way.
     let reason = ⊎-elim
     (λ side. λ free. of-false (blank (at .loop .component) (at .loop .start)) (side .2 .left))
-    (λ side. λ free. absurd (side .left (free-byte _ _ _ admitted (at .loop .start) (omega arith) free)))
+    (λ side. λ free. absurd (side .left (free-byte admitted (at .loop .start) (omega arith) free)))
     (way .0 .came) in
     rw (way .1, way .2, way .3, way .4) (omega arith, record { admitted = admitted; flooding = pass (floods .flooding) reason; pends = floods .pends }))
     (c .if1 .came)
@@ -94,7 +95,7 @@ returns c =
     let at = c .before in
     let start = at .before .before .before .before .before .before .before .before in
     let done : at .loop .start ≡ vertices (start .args .starts .now) = omega arith in
-    finish (simple _ _ (start .pre .0 .table)) ((rw done at (at .loop .inv .1)) .flooding)
+    finish (simple (start .pre .admitted .table)) ((rw done at (at .loop .inv .1)) .flooding)
 
 pub flood-spec : {M : Type 1} → statement M
 flood-spec =

@@ -1,23 +1,25 @@
 -- `input::admit` meets its contract. Assumes nothing.
 use mathlib.Core.Path.{_≡_, sym, ap, _∙_}
 use native.Mathlib.Omega.{arith}
+use Rattle.table.proofs.Guards.{handed}
+use Rattle.shells.specs.Input.{admitOf}
 use borrow.Author.Needs.{needs}
 use Rattle.finite.specs.Search.{first}
 use Rattle.table.specs.Table.{vertices, checkOf}
-use Rattle.table.specs.declared.Checked.the-variants.{Sound}
+use Rattle.table.specs.declared.Guard.the-variants.{Passed}
 use Rattle.table.proofs.Laws.{sound, hit, pass, nothing}
-use Rattle.shells.proofs.Laws.{admit-refused, wrong-number, right-number}
+use Rattle.shells.proofs.Laws.{wrong-number, right-number}
 use Rattle.shells.proofs.input.admit.Statement.{statement}
 use Rattle.shells.proofs.input.admit.Tie as tie
 
 abbrev entry : tie.After-enum-told → tie.Start
 entry c = c .before .before .before .before .before .before
 
-told : (c : tie.After-enum-told) → let args = entry c .args in checkOf (args .starts .now) (args .links .now) ≡ Sound
-told c = sym (c .before .before .check .ensures) ∙ c .enum-told .given .1
+told : (c : tie.After-enum-told) → let args = entry c .args in checkOf (args .starts .now) (args .links .now) ≡ Passed
+told c = sym (c .before .before .test-table .ensures) ∙ c .enum-told .given .1
 
-check-requires : tie.Need-check-requires
-check-requires c κs = search needs
+test-table-requires : tie.Need-test-table-requires
+test-table-requires c κs = search needs
 
 enum-known-checked : tie.Need-enum-known-checked
 enum-known-checked c = search needs
@@ -48,7 +50,8 @@ returns-2 c =
     c .refused2 .ensures ∙ sym (right-number _ _ _ (told (searched .before .before)) long ∙ hit 10 _ (vertices s) _ (searched .first-bad-byte .ensures ∙ ap (first _) long) (omega arith))
 
 returns-3 : tie.Need-returns-3
-returns-3 c = sym (admit-refused _ _ _ (sym (c .before .before .before .check .ensures) ∙ c .before .checked .given .1))
+unfolding admitOf
+returns-3 c = sym (handed _ _ (sym (c .before .before .before .test-table .ensures) ∙ c .before .checked .given .1))
 
 returns-4 : tie.Need-returns-4
 returns-4 c =
@@ -61,7 +64,7 @@ pub admit-spec : {M : Type 1} → statement M
 admit-spec =
     tie.close
     (tie.spec
-    check-requires
+    test-table-requires
     enum-known-checked
     enum-told
     sub-if1

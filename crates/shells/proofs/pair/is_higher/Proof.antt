@@ -8,20 +8,20 @@ use borrow.Author.Needs.{needs}
 use Rattle.shells.proofs.pair.is_higher.Statement.{statement}
 use Rattle.shells.proofs.pair.is_higher.Tie as tie
 
-mul-new : tie.Need-mul-new
-mul-new c = search needs
+mul-t6 : tie.Need-mul-t6
+mul-t6 c = search needs
 
-shared-slice-read-new : tie.Need-shared-slice-read-new
-shared-slice-read-new c = search needs
+shared-slice-read-t8 : tie.Need-shared-slice-read-t8
+shared-slice-read-t8 c = search needs
 
 new-requires : tie.Need-new-requires
 new-requires c κs = search needs
 
-mul-new-2 : tie.Need-mul-new-2
-mul-new-2 c = search needs
+mul-t6-2 : tie.Need-mul-t6-2
+mul-t6-2 c = search needs
 
-shared-slice-read-new-2 : tie.Need-shared-slice-read-new-2
-shared-slice-read-new-2 c = search needs
+shared-slice-read-t8-2 : tie.Need-shared-slice-read-t8-2
+shared-slice-read-t8-2 c = search needs
 
 new-requires-2 : tie.Need-new-requires-2
 new-requires-2 c κs = search needs
@@ -42,11 +42,11 @@ pub is-higher-spec : {M : Type 1} → statement M
 is-higher-spec =
     tie.close
     (tie.spec
-    mul-new
-    shared-slice-read-new
+    mul-t6
+    shared-slice-read-t8
     new-requires
-    mul-new-2
-    shared-slice-read-new-2
+    mul-t6-2
+    shared-slice-read-t8-2
     new-requires-2
     at-or-above-requires
     returns)

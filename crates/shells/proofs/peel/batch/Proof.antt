@@ -27,7 +27,7 @@ bounds : (c : tie.In-loop Inv-loop μ-loop) → (c .before .before .before .befo
 bounds c =
     let r = c .before .before .before .before .pre .1 .1 in
     let inv = c .before .loop .inv in
-    let b = remove-bounds _ _ (size (r .admitted)) (inv .2) (c .loop-test .taken) (inv .1) (inv .3 _ (r .admitted) (r .state)) in
+    let b = remove-bounds (size (r .admitted)) (inv .2) (c .loop-test .taken) (inv .1) (inv .3 _ (r .admitted) (r .state)) in
     (b .0, b .1, r .admitted .table .small)
 
 loop-holds : tie.Need-loop-holds Inv-loop μ-loop
@@ -54,7 +54,7 @@ lower-requires c κs =
     let p = inside .before .before .before .before .pre in
     let r = p .1 .1 in
     let inv = inside .before .loop .inv in
-    let can = remove-can _ _ (size (r .admitted)) (inv .2) (inside .loop-test .taken) (inv .1) (inv .3 _ (r .admitted) (r .state)) in
+    let can = remove-can (size (r .admitted)) (inv .2) (inside .loop-test .taken) (inv .1) (inv .3 _ (r .admitted) (r .state)) in
     (p .0 .1, (inv .2, rw (c .before .before .before .before .neighbors .ensures) can))
 
 add-i : tie.Need-add-i Inv-loop μ-loop
@@ -71,7 +71,7 @@ loop-again c =
       omega (arith, inside .loop-test .taken),
       omega (arith, inv .1, c .lower .ensures .grows),
       c .lower .ensures .long,
-      λ a h P. remove _ a (size h) (inv .2) (inside .loop-test .taken) (inv .1) (inv .3 a h P) struck,
+      λ a h P. remove (size h) (inv .2) (inside .loop-test .taken) (inv .1) (inv .3 a h P) struck,
     )
 
 returns : tie.Need-returns Inv-loop μ-loop

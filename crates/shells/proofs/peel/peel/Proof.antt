@@ -11,6 +11,7 @@ use Rattle.shells.specs.Input.{graphOf, anchoredBy}
 use Rattle.shells.specs.Peeling.{Peels, Long}
 use Rattle.shells.proofs.Laws.{simple}
 use Rattle.shells.proofs.Arrays.{filled-holds}
+use Rattle.shells.proofs.Sheet.{in-arrays}
 use Rattle.shells.proofs.Peeling.{k-below, finish}
 use Rattle.shells.proofs.Steps.{first-shell}
 use Rattle.shells.proofs.peel.peel.Statement.{statement}
@@ -58,7 +59,7 @@ loop-holds c =
     let f = rw long-layer at (c .before .fill2 .ensures) in (
       omega arith,
       record { degrees = d .0; levels = ap length e ∙ length-replicate {A = ℕ} 1024 65535; layers = ap length f ∙ length-replicate {A = ℕ} 1024 0; places = refl },
-      first-shell (graphOf (start .args .starts .now) (start .args .links .now)) (simple _ _ t) (start .args .anchored .now) _ _ _ (d .1) (filled-holds _ 1024 65535 _ e (t .small)) (filled-holds _ 1024 0 _ f (t .small)),
+      first-shell (simple t) (d .1) (filled-holds _ 1024 65535 _ e (t .small)) (filled-holds _ 1024 0 _ f (t .small)),
     )
 
 shell-requires : tie.Need-shell-requires Inv-loop μ-loop
@@ -81,8 +82,10 @@ loop-again c = (omega (arith, k-small (c .before .before .before .before .before
 
 returns : tie.Need-returns Inv-loop μ-loop
 returns c =
-    let all = finish (c .before .loop .inv .2 .peeling) (omega (arith, c .loop-test .left, free-count (c .before .before))) in
-    (λ v b. all v b .0, λ v b. all v b .1)
+    let inv = c .before .loop .inv in
+    let admitted = c .before .before .before .before .before .before .before .before .before .before .before .before .pre in
+    let all = finish (inv .2 .peeling) (omega (arith, c .loop-test .left, free-count (c .before .before))) in
+    in-arrays admitted (inv .1 .levels) (inv .1 .layers) (λ v b. all v b .0) (λ v b. all v b .1)
 
 pub peel-spec : {M : Type 1} → statement M
 peel-spec =

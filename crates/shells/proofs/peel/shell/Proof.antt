@@ -41,7 +41,7 @@ loop-holds c =
     let start = c .before .before .before .before .before .before .before .before in
     let p = start .pre in
     let s = c .seed .ensures in
-    let first = next-turn _ _ (s .moves (graphOf (start .args .starts .now) (start .args .links .now)) (p .0 .long, p .0 .table .small) (omega arith) [] (p .1 .1 .1)) in
+    let first = next-turn (s .moves (graphOf (start .args .starts .now) (start .args .links .now)) (p .0 .long, p .0 .table .small) (omega arith) [] (p .1 .1 .1)) in
     (s .grows, omega (arith, room-all (first .peeling), p .0 .table .small), omega arith, s .long, first)
 
 batch-requires : tie.Need-batch-requires Inv-loop μ-loop
@@ -66,14 +66,14 @@ loop-again c =
     let inv = c .before .before .before .before .before .before .loop .inv in
     let b = c .batch .ensures in
     let next = b .moves _ (p .0) (inv .4) in
-    (b .grows, omega (arith, room-all (next .peeling), p .0 .table .small), omega (arith, inv .2, c .before .before .before .before .before .loop-test .taken), b .long, next-turn _ _ next)
+    (b .grows, omega (arith, room-all (next .peeling), p .0 .table .small), omega (arith, inv .2, c .before .before .before .before .before .loop-test .taken), b .long, next-turn next)
 
 returns : tie.Need-returns Inv-loop μ-loop
 returns c =
     let p = c .before .before .before .before .before .before .before .before .before .before .pre in
     let loop = c .before .loop in
     let over : loop .head ≡ loop .end = omega (arith, loop .inv .0) in
-    (loop .inv .3, next-shell _ _ (rw (over, slice-empty (loop .end) (loop .queue)) at (loop .inv .4)) (omega (arith, p .1 .0)))
+    (loop .inv .3, next-shell (rw (over, slice-empty (loop .end) (loop .queue)) at (loop .inv .4)) (omega (arith, p .1 .0)))
 
 pub shell-spec : {M : Type 1} → statement M
 shell-spec =

@@ -3,6 +3,7 @@ use native.Mathlib.Omega.{arith}
 use borrow.Author.Tests.{eq-eqb, ne-eqb}
 use Rattle.anchored.specs.Followers.{followerCount}
 use Rattle.shells.specs.Input.{graphOf, anchoredBy}
+use Rattle.shells.proofs.Sheet.{in-arrays}
 use Rattle.step.proofs.Steps.{followers-le}
 use borrow.Author.Needs.{needs}
 use Rattle.step.proofs.afresh.count_followers.Statement.{statement}
@@ -19,10 +20,9 @@ search-requires : tie.Need-search-requires
 search-requires c κs =
     let start = c .before .before .before .before .before .before .before .before in
     let pre = start .pre in
-    let small = pre .0 .table .small in
     let byte = pre .0 .bytes (start .args .u) (pre .1 .1 .1) in
     let other = c .before .before .before .before .if1 .left in
-    (pre .0, (omega (arith, small, c .before .before .search-arg2 .given .0), (omega (arith, small, c .before .search-arg3 .given .0), (pre .1 .0, (pre .1 .1 .0, (pre .1 .1 .1, omega (arith, byte, other)))))))
+    (in-arrays (pre .0) (c .before .before .search-arg2 .given .0) (c .before .search-arg3 .given .0) (pre .1 .0) (pre .1 .1 .0), (pre .1 .1 .1, omega (arith, byte, other)))
 
 cast-result : tie.Need-cast-result
 cast-result c =

@@ -1,89 +1,80 @@
 -- `step::accept` meets its contract. Assumes nothing.
-use native.Mathlib.Omega.{arith}
+use mathlib.Core.Path.{sym}
 use mathlib.Core.Bool.{not}
+use Prim.Native.Nat.{_<_}
+use native.Mathlib.Omega.{arith}
+use lib.ListN.{set}
 use lib.Dec.{T}
-use Rattle.table.specs.Table.{vertices}
-use Rattle.shells.specs.Input.{anchoredBy}
+use Rattle.shells.specs.Input.{anchoredBy, Admitted}
 use Rattle.shells.proofs.Laws.{byte-free}
-use Rattle.change.proofs.Laws.{numbered}
-use Rattle.step.proofs.Steps.{admitted-set, right-after, stands-after, row-counted, redone-le}
+use Rattle.step.proofs.Steps.{admitted-set, turned, redone-le, redone-named}
 use Rattle.step.proofs.step.accept.Statement.{statement}
 use Rattle.step.proofs.step.accept.Tie as tie
 
--- the place of the call and of the refreshed sheet, seen from the end
-abbrev start : tie.After-redo → tie.Start
-start c = c .before .before .before .before .before .before .before .before .before .before .before .before .before .before .before .before .before .before .before .before .before .before .before .before .before .before .before .before .before .before .before .before .before .before
+-- the fresh columns, the stale rows marked and the entry, seen from the end
+abbrev marked : tie.After-redo → tie.After-mark-stale
+marked c = c .before .before .before .before .before .before .before
 
-abbrev refreshed : tie.After-redo → tie.After-refresh
-refreshed c = c .before .before .before .before .before .before .before .before .before .before .before .before .before .before .before .before .before .before .before .before .before .before
+abbrev refreshed : tie.After-mark-stale → tie.After-refresh
+refreshed c = c .before .before
 
-free : (c : tie.Start) → T (not (anchoredBy (c .args .old .anchored) (c .args .x)))
-free c = byte-free _ _ _ (c .pre .0 .sheet .admitted) (c .args .x) (c .pre .1 .1 .1)
+abbrev start : tie.After-refresh → tie.Start
+start c = c .before .before .before .before .before
+
+-- x is a place of every array
+inside : (c : tie.Start) → c .args .x < 1024
+inside c = omega (arith, c .pre .1 .0, c .pre .0 .admitted .table .small)
+
+free : (c : tie.Start) → T (not (anchoredBy (c .args .kept .anchored) (c .args .x)))
+free c = byte-free (c .args .kept .anchored) (c .args .x) (c .pre .1 .1)
+
+-- the bytes with x anchored too are admitted
+admits : (c : tie.Start) → Admitted (c .args .starts .now) (c .args .links .now) (set (c .args .kept .anchored) (c .args .x) 1)
+admits c = admitted-set _ _ _ (c .args .x) (c .pre .0 .admitted) (c .pre .1 .0)
 
 array-write-anchored : tie.Need-array-write-anchored
-array-write-anchored c =
-    let pre = c .before .before .before .before .before .before .before .pre in
-    omega (arith, pre .1 .1 .0, pre .0 .sheet .admitted .table .small)
+array-write-anchored c = inside (c .before .before .before)
 
 refresh-requires : tie.Need-refresh-requires
-refresh-requires c κs =
-    let start = c .before .before .before .before .before .before .before .before .before .before .before in
-    admitted-set _ _ _ (start .args .x) (start .pre .0 .sheet .admitted) (start .pre .1 .1 .0)
+refresh-requires c κs = admits (c .before .before .before .before)
 
-mark-changed-requires : tie.Need-mark-changed-requires
-mark-changed-requires c κs =
-    let start = c .before .before .before .before .before .before .before .before .before .before .before .before .before .before .before .before .before .before .before in
-    (numbered _ _ _ _ _ _ (start .pre .0 .sheet), numbered _ _ _ _ _ _ (c .before .before .before .before .before .before .before .refresh .ensures))
+mark-stale-requires : tie.Need-mark-stale-requires
+mark-stale-requires c κs = start (c .before) .pre .0 .admitted .table
 
 mul-lifted : tie.Need-mul-lifted
-mul-lifted c =
-    let pre = c .before .before .before .before .before .before .before .before .before .before .before .before .before .before .before .before .before .before .before .before .before .before .pre in
-    omega (arith, pre .1 .1 .0, pre .0 .sheet .admitted .table .small)
+mul-lifted c = omega (arith, inside (c .before .before .before .before .before .before .before .before .before))
 
 array-read-lifted : tie.Need-array-read-lifted
-array-read-lifted c =
-    let pre = c .before .before .before .before .before .before .before .before .before .before .before .before .before .before .before .before .before .before .before .before .before .before .pre in
-    omega (arith, pre .1 .1 .0, pre .0 .sheet .admitted .table .small)
+array-read-lifted c = inside (c .before .before .before .before .before .before .before .before .before)
 
 redo-requires : tie.Need-redo-requires
 redo-requires c κs =
-    let start = c .before .before .before .before .before .before .before .before .before .before .before .before .before .before .before .before .before .before .before .before .before .before .before .before .before .before .before .before .before .before .before .before .before in
-    (start .pre .0 .sheet, (c .before .before .before .before .before .before .before .before .before .before .before .before .before .before .before .before .before .before .before .before .before .refresh .ensures, (c .before .before .before .before .before .before .before .before .before .before .before .before .before .mark-changed .ensures, (start .pre .0 .counts-long, start .pre .1 .0))))
+    let refreshed = refreshed (c .before .before .before .before .before .before) in
+    let right = start refreshed .pre .0 in
+    (admits (start refreshed), (refreshed .refresh .ensures, (right .counts-long, right .stamps-long)))
 
 mul-followers : tie.Need-mul-followers
-mul-followers c =
-    let pre = start c .pre in
-    omega (arith, pre .1 .1 .0, pre .0 .sheet .admitted .table .small)
+mul-followers c = omega (arith, inside (start (refreshed (marked c))))
 
 array-write-followers : tie.Need-array-write-followers
-array-write-followers c =
-    let pre = start c .pre in
-    omega (arith, pre .1 .1 .0, pre .0 .sheet .admitted .table .small)
+array-write-followers c = inside (start (refreshed (marked c)))
 
 mul-stamp : tie.Need-mul-stamp
-mul-stamp c =
-    let pre = start c .pre in
-    omega (arith, pre .1 .1 .0, pre .0 .sheet .admitted .table .small)
+mul-stamp c = omega (arith, inside (start (refreshed (marked c))))
 
 array-write-stamp : tie.Need-array-write-stamp
-array-write-stamp c =
-    let pre = start c .pre in
-    omega (arith, pre .1 .1 .0, pre .0 .sheet .admitted .table .small)
+array-write-stamp c = inside (start (refreshed (marked c)))
 
-cast-t37 : tie.Need-cast-t37
-cast-t37 c = omega (arith, start c .pre .0 .sheet .admitted .table .small, redone-le _ _ _ _ _ _ _ _ _ (c .redo .result) (vertices (start c .args .starts .now)) (c .redo .ensures))
+cast-t21 : tie.Need-cast-t21
+cast-t21 c = omega (arith, start (refreshed (marked c)) .pre .0 .admitted .table .small, redone-le (c .redo .ensures))
 
 returns : tie.Need-returns
 returns c =
-    let pre = start c .pre in
-    let x = start c .args .x in
-    let unanchored = free (start c) in (
-      right-after _ _ _ _ _ _ _ _ (pre .0) x (pre .1 .1 .0) unanchored _ _ _ _ (c .redo .ensures) _ _ _ (refreshed c .refresh .ensures),
-      (
-        stands-after _ _ _ _ _ _ _ _ (pre .0) x (pre .1 .1 .0) unanchored _ _ _ _ (c .redo .ensures) (pre .1 .0),
-        row-counted _ _ _ _ _ _ _ _ (pre .0) x (pre .1 .1 .0) unanchored _ _ _ _ (c .redo .ensures),
-      ),
-    )
+    let refreshed = refreshed (marked c) in
+    let start = start refreshed in
+    let columns = refreshed .refresh .ensures in
+    let found = marked c .mark-stale .ensures _ _ (start .pre .0 .columns) columns in
+    turned (start .pre .0) (start .args .x) (start .pre .1 .0) (free start) (redone-named (c .redo .ensures) (λ v h. sym (found v h))) (admits start) columns
 
 pub accept-spec : {M : Type 1} → statement M
 accept-spec =
@@ -91,7 +82,7 @@ accept-spec =
     (tie.spec
     array-write-anchored
     refresh-requires
-    mark-changed-requires
+    mark-stale-requires
     mul-lifted
     array-read-lifted
     redo-requires
@@ -99,5 +90,5 @@ accept-spec =
     array-write-followers
     mul-stamp
     array-write-stamp
-    cast-t37
+    cast-t21
     returns)

@@ -8,31 +8,29 @@ use Rattle.step.proofs.step.step.Statement.{statement}
 use Rattle.step.proofs.step.step.Tie as tie
 
 sub-if1 : tie.Need-sub-if1
-sub-if1 c = c .before .before .pre .0 .sheet .admitted .table .framed .some
+sub-if1 c = c .before .before .pre .admitted .table .framed .some
 
 returns : tie.Need-returns
 returns c =
     let start = c .before .before .before in
     let far : vertices (start .args .starts .now) ≤ start .args .x = omega arith in
-    let refused = refused-vertex (start .args .starts .now) (start .args .links .now) (start .args .old .anchored) (start .args .old .stamp) (start .args .position) (start .args .x) (start .pre .1) far in
-    (start .pre .0, (refused .0, refused .1))
+    refused-vertex (start .pre) (start .args .position) (start .args .x) far
 
 array-read-if2 : tie.Need-array-read-if2
-array-read-if2 c = omega (arith, c .before .before .before .before .pre .0 .sheet .admitted .table .small)
+array-read-if2 c = omega (arith, c .before .before .before .before .pre .admitted .table .small)
 
 returns-2 : tie.Need-returns-2
 returns-2 c =
     let start = c .before .before .before .before .before in
     let inside : start .args .x < vertices (start .args .starts .now) = omega arith in
-    let refused = refused-anchored (start .args .starts .now) (start .args .links .now) (start .args .old .anchored) (start .args .old .stamp) (start .args .position) (start .args .x) (start .pre .1) inside (c .if2 .taken) in
-    (start .pre .0, (refused .0, refused .1))
+    refused-anchored (start .pre) (start .args .position) (start .args .x) inside (c .if2 .taken)
 
 accept-requires : tie.Need-accept-requires
 accept-requires c κs =
     let start = c .before .before .before .before .before in
     let inside : start .args .x < vertices (start .args .starts .now) = omega arith in
-    let byte = start .pre .0 .sheet .admitted .bytes (start .args .x) inside in
-    (start .pre .0, (start .pre .1, (inside, omega (arith, byte, c .if2 .left))))
+    let byte = start .pre .admitted .bytes (start .args .x) inside in
+    (start .pre, (inside, omega (arith, byte, c .if2 .left)))
 
 returns-3 : tie.Need-returns-3
 returns-3 c = search needs

@@ -1,2 +1,0 @@
-pub mod Sheet
-pub mod Change
