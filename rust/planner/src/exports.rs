@@ -1,5 +1,5 @@
-//! What the archive exports. A slice passes as its pointer and its length. Nothing checks these declarations against the Rattle
-//! source: crates/planner_c/src.
+//! What the archive exports. A slice passes as its pointer and its length. tests/declarations.rs holds these declarations to the Rattle
+//! source, crates/planner_c/src, and to include/planner.h, which says what each parameter is.
 
 /// Number 0 for an accepted call, with its values; else the refusal's number and place.
 #[repr(C)]

@@ -1,22 +1,13 @@
 //! Safe calls of the proved planner, one for each function that crates/planner_c exports.
+//!
+//! What makes a call safe is said at each: the slices that it is handed are borrowed while it runs, and it is proved to stay in them.
+//! That the declarations are those of the proved functions is tested (tests/declarations.rs).
 
 mod exports;
+mod refusal;
 
 use exports::Answer;
-
-/// A refusal: document 01's number and place.
-#[derive(Clone, Copy, PartialEq, Eq, Debug)]
-pub struct Refusal {
-    pub number: u64,
-    pub place: u64,
-}
-
-impl Refusal {
-    /// Whether a level sheet refused so overstates nobody's level.
-    pub fn bounds_levels(self) -> bool {
-        matches!(self.number, 20 | 21)
-    }
-}
+pub use refusal::Refusal;
 
 impl Answer {
     fn result(self) -> Result<(usize, usize), Refusal> {
@@ -37,6 +28,15 @@ pub struct Input<'a> {
     pub starts: &'a [u16],
     pub links: &'a [u16],
     pub anchored: &'a [u8],
+}
+
+/// What a search counts.
+#[derive(Clone, Copy, PartialEq, Eq, Debug)]
+pub struct Found {
+    /// The vertices that one more anchor lifts.
+    pub lifted: usize,
+    /// The vertices that upstair walks reach, those lifted included.
+    pub reached: usize,
 }
 
 /// What a session fills: six slices of a number for each vertex, three of a number for each request.
@@ -73,12 +73,14 @@ impl Record {
 
 /// The check of a table.
 pub fn check(starts: &[u16], links: &[u16]) -> Result<(), Refusal> {
+    // SAFETY: pointers and lengths of live slices, which the call only reads; it is proved to stay in them and keeps none.
     unsafe { exports::planner_check(starts.as_ptr(), starts.len(), links.as_ptr(), links.len()) }.done()
 }
 
 /// Levels, layers and components.
 pub fn work(input: Input, levels: &mut [u16], layers: &mut [u16], components: &mut [u16]) -> Result<(), Refusal> {
     let Input { starts, links, anchored } = input;
+    // SAFETY: pointers and lengths of live slices, no other borrow of those for writing; the call is proved to stay in them and keeps none.
     unsafe {
         exports::planner_work(
             starts.as_ptr(), starts.len(), links.as_ptr(), links.len(), anchored.as_ptr(), anchored.len(),
@@ -91,6 +93,7 @@ pub fn work(input: Input, levels: &mut [u16], layers: &mut [u16], components: &m
 /// The component list, by falling level, then by rising number: how many entries were written.
 pub fn list_components(input: Input, levels: &mut [u16], sizes: &mut [u16], numbers: &mut [u16]) -> Result<usize, Refusal> {
     let Input { starts, links, anchored } = input;
+    // SAFETY: pointers and lengths of live slices, no other borrow of those for writing; the call is proved to stay in them and keeps none.
     unsafe {
         exports::planner_list_components(
             starts.as_ptr(), starts.len(), links.as_ptr(), links.len(), anchored.as_ptr(), anchored.len(),
@@ -105,6 +108,7 @@ pub fn list_components(input: Input, levels: &mut [u16], sizes: &mut [u16], numb
 /// overstates nobody's level.
 pub fn check_sheet(input: Input, levels: &[u16], layers: &[u16]) -> Result<(), Refusal> {
     let Input { starts, links, anchored } = input;
+    // SAFETY: pointers and lengths of live slices, which the call only reads; it is proved to stay in them and keeps none.
     unsafe {
         exports::planner_check_sheet(
             starts.as_ptr(), starts.len(), links.as_ptr(), links.len(), anchored.as_ptr(), anchored.len(),
@@ -114,9 +118,10 @@ pub fn check_sheet(input: Input, levels: &[u16], layers: &[u16]) -> Result<(), R
     .done()
 }
 
-/// The follower search: count lifted, count reached.
-pub fn followers(input: Input, levels: &[u16], layers: &[u16], x: usize, marks: &mut [u8]) -> Result<(usize, usize), Refusal> {
+/// The follower search: marks 2 for each vertex that x lifts, 1 for each other one that is reached, and 0 for all others.
+pub fn followers(input: Input, levels: &[u16], layers: &[u16], x: usize, marks: &mut [u8]) -> Result<Found, Refusal> {
     let Input { starts, links, anchored } = input;
+    // SAFETY: pointers and lengths of live slices, no other borrow of those for writing; the call is proved to stay in them and keeps none.
     unsafe {
         exports::planner_followers(
             starts.as_ptr(), starts.len(), links.as_ptr(), links.len(), anchored.as_ptr(), anchored.len(),
@@ -124,12 +129,14 @@ pub fn followers(input: Input, levels: &[u16], layers: &[u16], x: usize, marks: 
         )
     }
     .result()
+    .map(|(lifted, reached)| Found { lifted, reached })
 }
 
 /// Who falls with x gone: marks 1 for each other vertex, not anchored, whose level would be lower were x and its edges not there, and 0
 /// for all others. x may be anchored.
 pub fn collapse(input: Input, levels: &[u16], layers: &[u16], x: usize, marks: &mut [u8]) -> Result<(), Refusal> {
     let Input { starts, links, anchored } = input;
+    // SAFETY: pointers and lengths of live slices, no other borrow of those for writing; the call is proved to stay in them and keeps none.
     unsafe {
         exports::planner_collapse(
             starts.as_ptr(), starts.len(), links.as_ptr(), links.len(), anchored.as_ptr(), anchored.len(),
@@ -143,6 +150,7 @@ pub fn collapse(input: Input, levels: &[u16], layers: &[u16], x: usize, marks: &
 pub fn run(input: Input, requests: &[u16], record: &mut Record) -> Result<(), Refusal> {
     let Input { starts, links, anchored: given } = input;
     let Record { anchored, levels, layers, components, followers, stamps, status, lifted, redone } = record;
+    // SAFETY: pointers and lengths of live slices, no other borrow of those for writing; the call is proved to stay in them and keeps none.
     unsafe {
         exports::planner_run(
             starts.as_ptr(), starts.len(), links.as_ptr(), links.len(), given.as_ptr(), given.len(), requests.as_ptr(), requests.len(),
@@ -156,6 +164,7 @@ pub fn run(input: Input, requests: &[u16], record: &mut Record) -> Result<(), Re
 
 /// From a text to the answer sheet: the sheet's length. Bytes past it, and at a refusal all, stay.
 pub fn text_to_sheet(text: &[u8], sheet: &mut [u8]) -> Result<usize, Refusal> {
+    // SAFETY: pointers and lengths of live slices, no other borrow of those for writing; the call is proved to stay in them and keeps none.
     let answer = unsafe { exports::planner_text_to_sheet(text.as_ptr(), text.len(), sheet.as_mut_ptr(), sheet.len()) };
     match answer.number {
         0 => Ok(answer.value as usize),

@@ -3,7 +3,7 @@
 
 mod shared;
 
-use planner::Refusal;
+use planner::{Found, Refusal};
 use pools::{Pool, Random};
 use reference::Anchoring;
 use shared::cases::{Case, Defined, WRONG_ENTRIES};
@@ -108,13 +108,14 @@ impl Compared {
         let before: Vec<u8> = (0..length).map(|i| 100 + i as u8 % 100).collect();
         let mut marks = before.clone();
         let answer = planner::followers(input(case.pool), levels, layers, x, &mut marks);
-        let counts = expected.as_ref().map(|found| (found.followers, found.candidates)).map_err(|e| *e);
+        let counts = expected.as_ref().map(|found| Found { lifted: found.followers, reached: found.candidates }).map_err(|e| *e);
         assert_eq!(answer, counts, "{:?} {x} {levels:?} {layers:?}", case.pool);
         assert_eq!(marks, expected.map_or(before, |found| found.marks), "{:?} {x}", case.pool);
         self.note("followers", &answer);
-        let (lifted, reached) = answer.unwrap_or((0, 0));
-        self.lifted += lifted;
-        self.reached += reached;
+        if let Ok(Found { lifted, reached }) = answer {
+            self.lifted += lifted;
+            self.reached += reached;
+        }
     }
 
     /// Every operation with right lengths and the defined sheet, the search from each of some vertices.

@@ -1,5 +1,6 @@
 //! The roster: from a text to an answer sheet, or to a refusal in plain words.
 
+use planner::Refusal;
 use std::fmt;
 
 /// The most a text may have; one byte more is refused.
@@ -11,7 +12,7 @@ pub const LONGEST_SHEET: usize = 60 * (48 + 1024);
 #[derive(Clone, PartialEq, Eq, Debug)]
 pub enum Answer {
     Sheet(Vec<u8>),
-    Refused { number: u64, place: u64 },
+    Refused(Refusal),
 }
 
 /// The planner's answer to a text.
@@ -22,34 +23,29 @@ pub fn answer(text: &[u8]) -> Answer {
             sheet.truncate(length);
             Answer::Sheet(sheet)
         }
-        Err(planner::Refusal { number, place }) => Answer::Refused { number, place },
+        Err(refusal) => Answer::Refused(refusal),
     }
 }
 
 /// A sheet as it is; a refusal as one sentence.
 impl fmt::Display for Answer {
     fn fmt(&self, f: &mut fmt::Formatter) -> fmt::Result {
-        match self {
-            Answer::Sheet(sheet) => f.write_str(&String::from_utf8_lossy(sheet)),
-            Answer::Refused { number, place } => write!(f, "Refused, number {number}, place {place}: {}.", meaning(*number, *place)),
+        match *self {
+            Answer::Sheet(ref sheet) => f.write_str(&String::from_utf8_lossy(sheet)),
+            Answer::Refused(refusal @ Refusal { number, place }) => {
+                write!(f, "Refused, number {number}, place {place}: {}.", said_of_text(refusal))
+            }
         }
     }
 }
 
-fn meaning(number: u64, place: u64) -> String {
-    match number {
-        2 => "there are more than 1,024 riders".into(),
-        3 => "there are more than 16,384 partners in all lists together".into(),
-        5 => format!("rider {place} lists a number that is no rider's"),
-        6 => format!("rider {place} lists himself"),
-        7 => format!("the list of rider {place} is not strictly ascending"),
-        8 => format!("rider {place} lists a partner who does not list him"),
+/// The refusal's own words; for 11, 12 and 15, which are wider because other calls have them too, those that fit a text.
+fn said_of_text(refusal: Refusal) -> String {
+    match refusal.number {
         11 => "there are more than 60 rounds".into(),
         12 => "the room for the sheet is too small".into(),
-        15 => format!("{place} is retained and is no rider's number"),
-        17 => format!("the text has more than {LONGEST_TEXT} bytes"),
-        18 => format!("line {place} departs from the form, is missing, or is one too many"),
-        _ => "a number that no text is refused with".into(),
+        15 => format!("{} is retained and is no rider's number", refusal.place),
+        _ => refusal.to_string(),
     }
 }
 
@@ -59,9 +55,23 @@ mod tests {
 
     #[test]
     fn sentences() {
-        let say = |number, place| Answer::Refused { number, place }.to_string();
-        assert_eq!(say(8, 12), "Refused, number 8, place 12: rider 12 lists a partner who does not list him.");
-        assert_eq!(say(18, 3), "Refused, number 18, place 3: line 3 departs from the form, is missing, or is one too many.");
+        let say = |number, place| Answer::Refused(Refusal { number, place }).to_string();
+        let sentences = [
+            (2, 0, "there are more than 1,024 riders"),
+            (3, 0, "there are more than 16,384 partners in all lists together"),
+            (5, 7, "rider 7 lists a number that is no rider's"),
+            (6, 7, "rider 7 lists himself"),
+            (7, 7, "the list of rider 7 is not strictly ascending"),
+            (8, 12, "rider 12 lists a partner who does not list him"),
+            (11, 0, "there are more than 60 rounds"),
+            (12, 0, "the room for the sheet is too small"),
+            (15, 40, "40 is retained and is no rider's number"),
+            (17, 0, "the text has more than 65536 bytes"),
+            (18, 3, "line 3 departs from the form, is missing, or is one too many"),
+        ];
+        for (number, place, words) in sentences {
+            assert_eq!(say(number, place), format!("Refused, number {number}, place {place}: {words}."));
+        }
         assert_eq!(Answer::Sheet(b"(round 01".to_vec()).to_string(), "(round 01");
         assert_eq!(LONGEST_SHEET, 64320);
     }

@@ -1,0 +1,101 @@
+/*
+ * Calls of the planner from C: four riders in a row, 0-1, 1-2, 2-3. From the repository's folder, once `rt staticlib planner_c` has run:
+ *
+ *     cc -std=c99 -Iinclude examples/call.c target/staticlib/libplanner_c.a -o target/call && target/call
+ */
+#include <inttypes.h>
+#include <stdio.h>
+#include <string.h>
+
+#include "planner.h"
+
+static const uint16_t starts[] = {0, 1, 3, 5, 6};
+static const uint16_t links[] = {1, 0, 2, 1, 3, 2};
+static const uint8_t retained[] = {1, 0, 0, 0};
+
+static void tell(const char *call, planner_answer answer)
+{
+    printf("%s: %" PRIu64 " %" PRIu64 " %" PRIu64 "\n", call, answer.number, answer.first, answer.second);
+}
+
+static void numbers(const char *name, const uint16_t *list, size_t count)
+{
+    printf("  %s", name);
+    for (size_t i = 0; i < count; i++)
+        printf(" %u", list[i]);
+    printf("\n");
+}
+
+static void bytes(const char *name, const uint8_t *list, size_t count)
+{
+    printf("  %s", name);
+    for (size_t i = 0; i < count; i++)
+        printf(" %u", list[i]);
+    printf("\n");
+}
+
+/* The table, and the same with the last link cut off. */
+static void check(void)
+{
+    tell("check", planner_check(starts, 5, links, 6));
+    tell("check of five links", planner_check(starts, 5, links, 5));
+}
+
+/* The level sheet with rider 0 retained, the patches, and what rests on the sheet: whom 3 lifts, whom 2 takes down. */
+static void sheet(void)
+{
+    uint16_t levels[4] = {0}, layers[4] = {0}, components[4] = {0}, of[4] = {0}, sizes[4] = {0}, lowest[4] = {0};
+    uint8_t marks[4] = {0};
+    tell("work", planner_work(starts, 5, links, 6, retained, 4, levels, 4, layers, 4, components, 4));
+    numbers("levels", levels, 4);
+    numbers("layers", layers, 4);
+    numbers("components", components, 4);
+    tell("list_components", planner_list_components(starts, 5, links, 6, retained, 4, of, 4, sizes, 4, lowest, 4));
+    numbers("level, size, number", (uint16_t[]){of[0], sizes[0], lowest[0]}, 3);
+    tell("followers", planner_followers(starts, 5, links, 6, retained, 4, levels, 4, layers, 4, 3, marks, 4));
+    bytes("marks", marks, 4);
+    tell("collapse", planner_collapse(starts, 5, links, 6, retained, 4, levels, 4, layers, 4, 2, marks, 4));
+    bytes("marks", marks, 4);
+    tell("check_sheet", planner_check_sheet(starts, 5, links, 6, retained, 4, levels, 4, layers, 4));
+    layers[1] = 9;
+    tell("check_sheet with a layer of 9", planner_check_sheet(starts, 5, links, 6, retained, 4, levels, 4, layers, 4));
+}
+
+/* Names 3 and 9, of which 9 is no rider. */
+static void session(void)
+{
+    static const uint16_t names[] = {3, 9};
+    uint8_t anchored[4] = {0};
+    uint16_t levels[4] = {0}, layers[4] = {0}, components[4] = {0}, followers[4] = {0}, stamps[4] = {0};
+    uint16_t status[2] = {0}, lifted[2] = {0}, redone[2] = {0};
+    tell("run", planner_run(starts, 5, links, 6, retained, 4, names, 2, anchored, 4, levels, 4, layers, 4, components, 4,
+                            followers, 4, stamps, 4, status, 2, lifted, 2, redone, 2));
+    bytes("anchored", anchored, 4);
+    numbers("levels", levels, 4);
+    numbers("followers", followers, 4);
+    numbers("stamps", stamps, 4);
+    numbers("status", status, 2);
+    numbers("lifted", lifted, 2);
+    numbers("redone", redone, 2);
+}
+
+/* A text of two riders and one round, with room enough for its sheet and with none. */
+static void text(void)
+{
+    static const char text[] = "(riders 2)\n(rider 0 (with 1))\n(rider 1 (with 0))\n(retained)\n(rounds 1)\n";
+    uint8_t sheet[50] = {0};
+    for (size_t room = 0; room <= sizeof sheet; room += sizeof sheet) {
+        planner_sheeted answer = planner_text_to_sheet((const uint8_t *)text, strlen(text), sheet, room);
+        printf("text_to_sheet: %" PRIu64 " %" PRIu64 "\n", answer.number, answer.value);
+    }
+    printf("%.*s", (int)sizeof sheet, (const char *)sheet);
+}
+
+int main(void)
+{
+    check();
+    sheet();
+    session();
+    text();
+    return 0;
+}

@@ -1,0 +1,239 @@
+/*
+ * The planner: a pool of riders and their partners as a graph. It works out levels of the anchored k-core, checks them, tells whom one
+ * more anchor lifts and whom a vertex takes down, works down a list of names, and turns a text into a sheet of rounds.
+ *
+ * For C99 and C++ on x86-64 Linux, with the archive libplanner_c.a (README.md says how to make it and link with it). Every function is
+ * proved to answer, and to leave in the memory lent to it, exactly what is defined, whatever the numbers that it is handed, if the caller
+ * keeps the rules of "Slices" below.
+ *
+ *
+ * Slices
+ *
+ * A pointer NAME and the number NAME_len behind it are one slice: NAME_len is the number of its elements, not of bytes. A slice behind a
+ * pointer to const is only read; any other is lent for writing. The caller sees to this:
+ *
+ *   - NAME points to NAME_len elements, all of them initialized, in a slice lent for writing too. During the call nothing else writes
+ *     them, and nothing else reads those lent for writing.
+ *   - A slice lent for writing does not overlap any other slice of the same call. Slices that are only read may overlap each other.
+ *   - NAME is not null and is aligned for its type, also where NAME_len is 0: the address of any object of the type will do.
+ *
+ * A call that is refused leaves every slice as it was. No call allocates memory, keeps a pointer, or has a state: calls from several
+ * threads at once are safe so long as none writes what another one uses. A call works on arrays of fixed size on the stack, for which 256
+ * KiB are enough (tested, not proved).
+ *
+ *
+ * Words, with those of the house in brackets
+ *
+ *   vertex (rider)       a number from 0 to n - 1; n is at most 1,024
+ *   neighbors (partners) the vertices that a vertex has an edge (pair) with: mutual, and never the vertex itself
+ *   anchored (retained)  a byte for each vertex: 1 if it is anchored, 0 if not
+ *   core k               the largest set of vertices in which each one that is not anchored has at least k neighbors in the set; an
+ *                        anchored vertex is always in it
+ *   level                of a vertex not anchored: the largest k whose core holds it
+ *   layer                of a vertex of level k: start from core k and take out, in batches, all vertices at once that are not anchored and
+ *                        have fewer than k + 1 neighbors left; the layer is the number of its batch, from 1
+ *   component (patch)    a maximal connected set of vertices, not anchored, of one level; its number is its lowest vertex
+ *   level sheet          the levels and the layers of all vertices
+ *   follower (lifted)    of x: a vertex, neither x nor anchored, whose level is greater with x anchored too; always by one
+ *
+ * An anchored vertex has level 65,535, layer 0 and component 65,535. Pairs (level, layer) are compared level first, and an anchored vertex
+ * stands above all of them.
+ *
+ *
+ * Refusals
+ *
+ * Each call below names the refusals that it can answer, in the order in which they are tested. Each test is over the whole input, and the
+ * first that fails is answered, with its place. Where several places offend it is the lowest. k and l are a vertex's level and layer in the
+ * sheet that the call is handed; an anchored neighbor counts in 19, 20 and 21.
+ *
+ *   number  place            what is wrong
+ *    1      0                starts has no element
+ *    2      0                there are more than 1,024 vertices
+ *    3      0                there are more than 16,384 links; in a text, more than 16,384 partners in all lists together
+ *    4      index in starts  the first start is not 0, a start is below the one before it, or the last is not links_len
+ *    5      vertex           it has a neighbor of n or more
+ *    6      vertex           it is its own neighbor
+ *    7      vertex           its neighbors are not strictly ascending
+ *    8      vertex           it lists a neighbor that does not list it
+ *    9      0                there are not n anchored bytes
+ *   10      vertex           its byte is above 1
+ *   11      0                there are more than 4,096 requests; in a text, more than 60 rounds
+ *   12      0                a slice lent for writing does not have the length stated with the call; for a text, holds less than its sheet
+ *   13      0                levels or layers are not n
+ *   14      vertex           it is anchored and its entry is not 65,535 and 0, or it is not anchored and its layer is 0
+ *   15      the number       x, or a number in a text's retained list, is n or more
+ *   16      vertex           x is anchored already
+ *   17      0                the text has more than 65,536 bytes
+ *   18      line, from 1     the line departs from the form, is missing, or is one too many
+ *   19      vertex           it has fewer than k neighbors of level k or more
+ *   20      vertex           it has more than k neighbors at or above (k, l)
+ *   21      vertex           l is above 1, and it has fewer than k + 1 neighbors at or above (k, l - 1)
+ */
+#ifndef PLANNER_H
+#define PLANNER_H
+
+#include <stddef.h>
+#include <stdint.h>
+
+#ifdef __cplusplus
+extern "C" {
+#endif
+
+/*
+ * Accepted: number is 0, and first and second are the values that the call states, 0 where it states none.
+ * Refused: number is the refusal's number, first its place, second 0.
+ */
+typedef struct planner_answer {
+    uint64_t number;
+    uint64_t first;
+    uint64_t second;
+} planner_answer;
+
+/*
+ * Accepted: number is 0, and value is the length of the sheet.
+ * Refused: number is the refusal's number, value its place.
+ */
+typedef struct planner_sheeted {
+    uint64_t number;
+    uint64_t value;
+} planner_sheeted;
+
+/*
+ * Whether two slices are the table of a graph. All calls but the last take a table and test it first in this way.
+ *
+ *   starts  n + 1 numbers, the first 0: the neighbors of vertex v are links[starts[v]] up to, not including, links[starts[v + 1]]
+ *   links   at most 16,384 numbers: the neighbors of all vertices, list after list, each list strictly ascending, each edge in two lists
+ *
+ * Accepted: states no value.
+ * Refused: 1, 2, 3, 4, 5, 6, 7, 8.
+ */
+planner_answer planner_check(const uint16_t *starts, size_t starts_len, const uint16_t *links, size_t links_len);
+
+/*
+ * Works out levels, layers and components.
+ *
+ *   starts, links  the table
+ *   anchored       n bytes: who is anchored
+ *   levels         filled, n numbers: the level of each vertex
+ *   layers         filled, n numbers: the layer of each vertex
+ *   components     filled, n numbers: the number of each vertex's component
+ *
+ * Accepted: states no value.
+ * Refused: 1 to 8, 9, 10, 12.
+ */
+planner_answer planner_work(
+    const uint16_t *starts, size_t starts_len, const uint16_t *links, size_t links_len, const uint8_t *anchored, size_t anchored_len,
+    uint16_t *levels, size_t levels_len, uint16_t *layers, size_t layers_len, uint16_t *components, size_t components_len);
+
+/*
+ * Lists the components, each once, by falling level, then by rising number.
+ *
+ *   starts, links  the table
+ *   anchored       n bytes: who is anchored
+ *   levels         n numbers, filled from the front: the level of each component
+ *   sizes          n numbers, filled from the front: how many vertices it has
+ *   numbers        n numbers, filled from the front: its number, which is its lowest vertex
+ *
+ * Accepted: first is how many components there are; places of the three slices past so many keep what they held.
+ * Refused: 1 to 8, 9, 10, 12.
+ */
+planner_answer planner_list_components(
+    const uint16_t *starts, size_t starts_len, const uint16_t *links, size_t links_len, const uint8_t *anchored, size_t anchored_len,
+    uint16_t *levels, size_t levels_len, uint16_t *sizes, size_t sizes_len, uint16_t *numbers, size_t numbers_len);
+
+/*
+ * Whether a level sheet is the one that planner_work would fill in. A sheet that is accepted, or refused with 20 or 21, gives no vertex a
+ * level above that one's.
+ *
+ *   starts, links  the table
+ *   anchored       n bytes: who is anchored
+ *   levels         n numbers: the sheet's levels
+ *   layers         n numbers: the sheet's layers
+ *
+ * Accepted: states no value.
+ * Refused: 1 to 8, 9, 10, 13, 14, 19, 20, 21.
+ */
+planner_answer planner_check_sheet(
+    const uint16_t *starts, size_t starts_len, const uint16_t *links, size_t links_len, const uint8_t *anchored, size_t anchored_len,
+    const uint16_t *levels, size_t levels_len, const uint16_t *layers, size_t layers_len);
+
+/*
+ * The follower search (local search): whom one more anchor lifts. An upstair walk goes from x to a neighbor that is not anchored and has a
+ * greater pair (level, layer), and from there on to neighbors of the same level and a greater layer; it reaches every follower of x.
+ *
+ *   starts, links   the table
+ *   anchored        n bytes: who is anchored
+ *   levels, layers  n numbers each: the level sheet, as planner_work fills it in
+ *   x               a vertex that is not anchored
+ *   marks           filled, n bytes: 2 for a follower of x, 1 for another vertex that an upstair walk reaches, 0 for all others and for x
+ *
+ * Accepted: first is how many followers x has (its yield), second how many vertices upstair walks reach, followers included.
+ * Refused: 1 to 8, 9, 10, 12, 13, 14, 19, 20, 21, 15, 16.
+ */
+planner_answer planner_followers(
+    const uint16_t *starts, size_t starts_len, const uint16_t *links, size_t links_len, const uint8_t *anchored, size_t anchored_len,
+    const uint16_t *levels, size_t levels_len, const uint16_t *layers, size_t layers_len, size_t x, uint8_t *marks, size_t marks_len);
+
+/*
+ * Who falls when a vertex goes (a rider quits): the vertices, neither x nor anchored, whose level would be lower were x and its edges not
+ * there; it is then lower by one.
+ *
+ *   starts, links   the table
+ *   anchored        n bytes: who is anchored
+ *   levels, layers  n numbers each: the level sheet, as planner_work fills it in
+ *   x               a vertex, anchored or not
+ *   marks           filled, n bytes: 1 for a vertex that falls, 0 for all others and for x
+ *
+ * Accepted: states no value.
+ * Refused: 1 to 8, 9, 10, 12, 13, 14, 19, 20, 21, 15.
+ */
+planner_answer planner_collapse(
+    const uint16_t *starts, size_t starts_len, const uint16_t *links, size_t links_len, const uint8_t *anchored, size_t anchored_len,
+    const uint16_t *levels, size_t levels_len, const uint16_t *layers, size_t layers_len, size_t x, uint8_t *marks, size_t marks_len);
+
+/*
+ * A session: anchors the requested vertices one after the other, each on what the one before left, and keeps every vertex's follower count
+ * right by working out anew exactly those that the step may have changed.
+ *
+ *   starts, links  the table
+ *   given          n bytes: who is anchored at the start
+ *   requests       at most 4,096 numbers (names): whom to anchor, in this order
+ *   anchored       filled, n bytes: who is anchored at the end
+ *   levels         filled, n numbers: the levels at the end
+ *   layers         filled, n numbers: the layers at the end
+ *   components     filled, n numbers: the components at the end
+ *   followers      filled, n numbers: how many followers each vertex has at the end (its yield), 65,535 for an anchored one
+ *   stamps         filled, n numbers: the position, from 1, of the last request that anchored the vertex or had its follower count worked
+ *                  out anew; 0 if none did
+ *   status         filled, a number for each request: 0 if it was done; 15 if it names no vertex, 16 if that vertex was anchored already.
+ *                  A request with 15 or 16 changes nothing, and the session goes on
+ *   lifted         filled, a number for each request: how many vertices it lifted; 0 if its status is not 0
+ *   redone         filled, a number for each request: of how many vertices the follower count was worked out anew after it, the newly
+ *                  anchored one not counted; 0 if its status is not 0
+ *
+ * Accepted: states no value.
+ * Refused: 1 to 8, 9, 10, 11, 12; the bytes of 9 and 10 are given.
+ */
+planner_answer planner_run(
+    const uint16_t *starts, size_t starts_len, const uint16_t *links, size_t links_len, const uint8_t *given, size_t given_len,
+    const uint16_t *requests, size_t requests_len, uint8_t *anchored, size_t anchored_len, uint16_t *levels, size_t levels_len,
+    uint16_t *layers, size_t layers_len, uint16_t *components, size_t components_len, uint16_t *followers, size_t followers_len,
+    uint16_t *stamps, size_t stamps_len, uint16_t *status, size_t status_len, uint16_t *lifted, size_t lifted_len,
+    uint16_t *redone, size_t redone_len);
+
+/*
+ * From a text to the answer sheet. docs/FORMAT.md describes both.
+ *
+ *   text   at most 65,536 bytes: riders, their partners, who is retained, and how many rounds to play
+ *   sheet  filled from the front: a line for each round. A sheet has r * (48 + n) bytes for r rounds, so that 64,320 hold every one
+ *
+ * Accepted: value is the sheet's length; bytes past it keep what they held.
+ * Refused: 17, 18, 2, 3, 5, 6, 7, 8, 11, 12, 15.
+ */
+planner_sheeted planner_text_to_sheet(const uint8_t *text, size_t text_len, uint8_t *sheet, size_t sheet_len);
+
+#ifdef __cplusplus
+}
+#endif
+
+#endif

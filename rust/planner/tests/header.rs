@@ -1,0 +1,50 @@
+//! include/planner.h from C: examples/call.c is compiled with the C compiler that links Rust's programs, linked with the archive, and run.
+
+mod source;
+
+use std::path::Path;
+use std::process::{Command, Output};
+
+/// What the program prints: of an answer the number and its values; under it what it filled.
+const PRINTED: &str = "\
+check: 0 0 0
+check of five links: 4 4 0
+work: 0 0 0
+  levels 65535 1 1 1
+  layers 0 3 2 1
+  components 65535 1 1 1
+list_components: 0 1 0
+  level, size, number 1 3 1
+followers: 0 2 2
+  marks 0 2 2 0
+collapse: 0 0 0
+  marks 0 0 0 1
+check_sheet: 0 0 0
+check_sheet with a layer of 9: 21 1 0
+run: 0 0 0
+  anchored 1 0 0 1
+  levels 65535 2 2 65535
+  followers 65535 0 0 65535
+  stamps 0 0 1 1
+  status 0 15
+  lifted 2 0
+  redone 1 0
+text_to_sheet: 12 0
+text_to_sheet: 0 50
+(round 01 (retain 0000) (marks ..) (redone 0000))
+";
+
+fn done(command: &mut Command) -> Output {
+    let output = command.output().unwrap_or_else(|e| panic!("{command:?}: {e}"));
+    assert!(output.status.success(), "{command:?}: {}", String::from_utf8_lossy(&output.stderr));
+    output
+}
+
+#[test]
+fn a_program_in_c() {
+    let (root, program) = (source::root(), Path::new(env!("CARGO_TARGET_TMPDIR")).join("call"));
+    let mut compiler = Command::new("cc");
+    compiler.args(["-std=c99", "-Wall", "-Wextra", "-Wpedantic", "-Werror", "-Iinclude", "examples/call.c"]);
+    done(compiler.arg("target/staticlib/libplanner_c.a").arg("-o").arg(&program).current_dir(root));
+    assert_eq!(String::from_utf8(done(&mut Command::new(program)).stdout).unwrap(), PRINTED);
+}

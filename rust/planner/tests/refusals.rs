@@ -1,0 +1,46 @@
+//! The words of refusals: every number has its own, in rust/planner and in include/planner.h.
+
+mod source;
+
+use planner::Refusal;
+use std::collections::BTreeSet;
+use std::error::Error;
+
+/// Documents 01 and 02 have given the numbers from 1 up to this one so far.
+const LAST: u64 = 21;
+
+/// Those whose place is not always 0.
+const PLACED: [u64; 13] = [4, 5, 6, 7, 8, 10, 14, 15, 16, 18, 19, 20, 21];
+
+fn words(number: u64, place: u64) -> String {
+    let refusal: Box<dyn Error> = Box::new(Refusal { number, place });
+    refusal.to_string()
+}
+
+#[test]
+fn every_number_has_words() {
+    let unknown = |number: u64| format!("{number} is no refusal's number");
+    let all: BTreeSet<String> = (1..=LAST).map(|number| words(number, 0)).collect();
+    assert_eq!(all.len() as u64, LAST);
+    assert!((1..=LAST).all(|number| words(number, 0) != unknown(number)));
+    assert!([0, LAST + 1, u64::MAX].into_iter().all(|number| words(number, 3) == unknown(number)));
+    for number in 1..=LAST {
+        let told = words(number, 777);
+        assert_eq!(told.contains("777"), PLACED.contains(&number), "{told}");
+    }
+}
+
+/// A line of the header's table: the number, and the first word of its place.
+fn row(line: &str) -> Option<(u64, &str)> {
+    let mut words = line.strip_prefix(" * ")?.split_whitespace();
+    Some((words.next()?.parse().ok()?, words.next()?))
+}
+
+#[test]
+fn the_header_lists_them() {
+    let header = source::file("include/planner.h");
+    let rows: Vec<(u64, &str)> = header.lines().filter_map(row).collect();
+    assert!(rows.iter().map(|&(number, _)| number).eq(1..=LAST), "{rows:?}");
+    let placed = rows.iter().filter(|(_, place)| *place != "0").map(|&(number, _)| number);
+    assert!(placed.eq(PLACED), "{rows:?}");
+}
