@@ -1,5 +1,6 @@
 //! The roster on the folder examples/, as a library and as a program.
 
+use planner::Refusal;
 use pools::Example;
 use roster::{answer, Answer};
 use std::io::Write;
@@ -27,7 +28,7 @@ fn examples() {
     for example in pools::examples() {
         let told = match answer(&example.text) {
             Answer::Sheet(sheet) => Ok(sheet),
-            Answer::Refused { number, place } => Err((number, place)),
+            Answer::Refused(Refusal { number, place }) => Err((number, place)),
         };
         let refused = told.is_err();
         assert!(pools::printed(told) == example.printed, "{}", example.name);
@@ -47,7 +48,7 @@ fn examples() {
 fn damaged() {
     let chain = pools::examples().into_iter().find(|example| example.name == "chain").unwrap();
     let short = &chain.text[..chain.text.len() - 1];
-    assert_eq!(answer(short), Answer::Refused { number: 18, place: 7 });
+    assert_eq!(answer(short), Answer::Refused(Refusal { number: 18, place: 7 }));
     let output = by_input(short);
     assert_eq!(output.status.code(), Some(1));
     let sentence = "Refused, number 18, place 7: line 7 departs from the form, is missing, or is one too many.\n";
@@ -55,5 +56,4 @@ fn damaged() {
     let output = by_input(&[b' '; 70000]);
     assert_eq!(output.status.code(), Some(1));
     assert_eq!(String::from_utf8(output.stderr).unwrap(), "Refused, number 17, place 0: the text has more than 65536 bytes.\n");
-    assert_eq!(roster().arg("no such file").output().unwrap().status.code(), Some(1));
 }
