@@ -384,13 +384,3 @@ set-reads xs x y v h = split (eqb x v)
     let here = eqb→eq x v t in
     rw (true-of (eqb x v) t) (subst (λ z. getD (set xs x y) z 0 ≡ y) here (getD-set-same xs x y 0 (h here))))
     (λ t. rw (false-of (eqb x v) t) (getD-set-other xs x v y 0 (λ e. neqb x v t (sym e))))
-
--- a mark 1 among marks
-pub set-bit : (marks : List ℕ) (i v : ℕ) (b : Bool) → v < length marks → getD marks v 0 ≡ bit b → getD (set marks i 1) v 0 ≡ bit (b || eqb i v)
-set-bit marks i v b h e = set-reads marks i 1 v (λ q. omega arith) ∙ ap (cond (eqb i v) 1) e ∙ by-case (eqb i v) b
-  where
-    by-case : (a b : Bool) → cond a 1 (bit b) ≡ bit (b || a)
-    by-case true true = refl
-    by-case true false = refl
-    by-case false true = refl
-    by-case false false = refl

@@ -1,6 +1,6 @@
 -- The marks that the passes of a step leave are the recomputed rows. Assumes nothing.
 use mathlib.Core.Path.{_≡_, refl, sym, ap, ap₂, _∙_}
-use mathlib.Core.Bool.{Bool, true, false, not, _&&_, _||_, or-true, and-false}
+use mathlib.Core.Bool.{Bool, true, false, not, _&&_, _||_, or-true, and-true, and-false}
 use mathlib.Core.List.{List}
 use Prim.Native.Nat.{ℕ, _≤_, _<_}
 use native.Mathlib.Omega.{arith}
@@ -11,8 +11,8 @@ use Rattle.finite.specs.Count.{below}
 use Rattle.finite.specs.Search.{any}
 use Rattle.finite.specs.Pairs.{pairLe}
 use Rattle.finite.proofs.Tests.{split, same, true-of, false-of, and-i, and-l, and-r, or-l, or-r, or-e}
-use Rattle.finite.proofs.Count.{in-below, zeros-at, count-cong, count-length, distinct-length}
-use Rattle.finite.proofs.Search.{any-i, any-e, any-cong}
+use Rattle.finite.proofs.Count.{in-at, in-below, zeros-at, count-cong, count-length, distinct-length}
+use Rattle.finite.proofs.Search.{any-i, any-e, any-none, any-cong}
 use Rattle.anchored.specs.Graph.{Graph, Simple}
 use Rattle.anchored.specs.Core.{level, layer, greater, higher}
 use Rattle.anchored.specs.Component.{component}
@@ -29,6 +29,10 @@ use Rattle.stale.specs.Columns.{higherBy, aboveBy, ColumnsOf, Finds}
 use Rattle.stale.specs.declared.Columns.{Columns}
 
 -- ---- tests
+
+and-comm : (a b : Bool) → a && b ≡ b && a
+and-comm true b = sym (and-true b)
+and-comm false b = sym (and-false b)
 
 -- where c holds, a and b are alike
 under : (a b c : Bool) → (T c → a ≡ b) → a && c ≡ b && c
@@ -149,24 +153,37 @@ looking s l columns marks = looks s l (columns .level) (columns .layer) (columns
 -- and by the definitions
 module _ {s l : List ℕ} (table : SoundTable s l) {A C : ℕ → Bool} {columns : Columns} (defined : ColumnsOf (graphOf s l) A columns) (marks : List ℕ)
     (numbers : (c : ℕ) → c < vertices s → marked marks c ≡ C c) where
-  looks-means : (u : ℕ) → u < vertices s
-      → looking s l columns marks u ≡ any (λ v. not (A v) && greater (graphOf s l) A v u && C (component (graphOf s l) A v)) (neighbors s l u)
+  abbrev G : Graph
+  G = graphOf s l
+
+  abbrev leads : ℕ → ℕ → Bool
+  leads u v = not (A v) && greater G A v u && C (component G A v)
+
+  -- an anchored vertex has the greatest pair
+  blind : (u v : ℕ) → v < vertices s → T (A u) → leads u v ≡ false
+  unfolding greater pairLe
+  blind u v k a = split (A v)
+      (λ t. rw (true-of (A v) t))
+      (λ t. rw (false-of (A v) t, lt-ltb (level G A v) (level G A u) (omega (arith, level-lt G (simple table) A v k t, level-anchored G (simple table) A u a, table .small))))
+
+  through : (u v : ℕ) → u < vertices s → v < vertices s → looksThrough (columns .level) (columns .layer) (columns .component) marks u v ≡ leads u v
   unfolding greater
-  looks-means u h =
-      let G = graphOf s l in
-      let small = table .small in
-      let lev = columns .level in
-      let lay = columns .layer in
-      any-cong (looksThrough lev lay (columns .component) marks u) (λ v. not (A v) && greater G A v u && C (component G A v)) (neighbors s l u)
-      (λ v i.
-      let k = table .range u v h i in
-      split (A v)
-      (λ a. rw (defined .components v k, component-anchored G A v a, true-of (A v) a) (and-false (not (pairLe (getD lev v 0) (getD lay v 0) (getD lev u 0) (getD lay u 0)))))
+  through u v h k = split (A v)
+      (λ a. rw (defined .components v k, component-anchored G A v a, true-of (A v) a))
       (λ a.
+      let small = table .small in
       let number = component G A v in
       let low = component-lt G (simple table) A v k a in
       let e : upTo (marked marks) 1024 number ≡ C number = upTo-below (marked marks) 1024 number (omega arith) ∙ numbers number low in
-      rw (defined .levels v k, defined .layers v k, defined .levels u h, defined .layers u h, defined .components v k, false-of (A v) a) (ap (λ z. greater G A v u && z) e)))
+      rw (defined .levels v k, defined .layers v k, defined .levels u h, defined .layers u h, defined .components v k, false-of (A v) a)
+      (ap (λ z. z && greater G A v u) e ∙ and-comm (C number) (greater G A v u)))
+
+  looks-means : (u : ℕ) → u < vertices s → looking s l columns marks u ≡ any (leads u) (neighbors s l u)
+  looks-means u h = let part = neighbors s l u in split (A u)
+      (λ a. rw (defined .components u h, component-anchored G A u a) (sym (any-none (leads u) part (λ i b. blind u (getD part i 0) (table .range u (getD part i 0) h (in-at part i 0 b)) a))))
+      (λ a.
+      let near : component G A u < 1024 = omega (arith, component-lt G (simple table) A u h a, table .small) in
+      rw (defined .components u h, lt-ltb (component G A u) 1024 near) (any-cong (looksThrough (columns .level) (columns .layer) (columns .component) marks u) (leads u) part (λ v i. through u v h (table .range u v h i))))
 
 -- ---- a step
 

@@ -98,7 +98,7 @@ fn is_marked(changed: &[u8; 1024], number: u16) -> bool
     false
 }
 
-// Whether v leads u into a marked component: of greater pair, its component number marked.
+// Whether v leads u into a marked component: its number is marked, which is asked first as most are not, and its pair greater.
 fn looks_through(
     level: &[u16; 1024],
     layer: &[u16; 1024],
@@ -111,13 +111,13 @@ fn looks_through(
     requires { ⌜ v < 1024 ⌝ }
     ensures { λ r. ⌜ r ≡ looksThrough (old level) (old layer) (old component) (old changed) u v ⌝ }
 {
-    if !shells::pair::is_above(level, layer, v, u) {
+    if !is_marked(changed, component[v]) {
         return false;
     }
-    is_marked(changed, component[v])
+    shells::pair::is_above(level, layer, v, u)
 }
 
-// Whether u looks into a component whose number is marked.
+// Whether u looks into a component whose number is marked; an anchored vertex, which has no number, does not.
 fn looks(
     starts: &[u16],
     links: &[u16],
@@ -131,6 +131,9 @@ fn looks(
     requires { ⌜ u < vertices (now starts) ⌝ }
     ensures { λ r. ⌜ r ≡ looksBy (old starts) (old links) (old level) (old layer) (old component) (old changed) u ⌝ }
 {
+    if 1023 < component[u] {
+        return false;
+    }
     let part = table::neighbors(starts, links, u);
     let mut i: usize = 0;
     while i < part.len() {
@@ -146,23 +149,22 @@ fn looks(
 fn mark_lookers(
     starts: &[u16],
     links: &[u16],
-    columns: Columns,
+    level: &[u16; 1024],
+    layer: &[u16; 1024],
+    component: &[u16; 1024],
     changed: &[u8; 1024],
     stale: &mut [u8; 1024],
 )
     requires { ⌜ SoundTable (now starts) (now links) ⌝ }
     requires { ⌜ length (now stale) ≡ 1024 ⌝ }
     ensures { λ _.
-        let looking = looksBy (old starts) (old links) (columns .level) (columns .layer) (columns .component) (old changed) in
+        let looking = looksBy (old starts) (old links) (old level) (old layer) (old component) (old changed) in
         ⌜ Added (upTo looking (vertices (old starts))) (old stale) (final stale) ⌝ }
 {
     let n = starts.len() - 1;
-    let level = columns.level;
-    let layer = columns.layer;
-    let component = columns.component;
     let mut u: usize = 0;
     while u < n {
-        if looks(starts, links, &level, &layer, &component, changed, u) {
+        if looks(starts, links, level, layer, component, changed, u) {
             stale[u] = 1;
         }
         u += 1;
@@ -181,20 +183,30 @@ pub fn mark_stale(
     ensures { λ _. ⌜ Finds (old starts) (old links) before after (final stale) ⌝ }
 {
     let n = starts.len() - 1;
-    let level_before = before.level;
-    let level_after = after.level;
-    let component_before = before.component;
-    let component_after = after.component;
-    let above_before = before.above;
-    let above_after = after.above;
+    let old_level = before.level;
+    let old_layer = before.layer;
+    let old_component = before.component;
+    let old_above = before.above;
+    let level = after.level;
+    let layer = after.layer;
+    let component = after.component;
+    let above = after.above;
     let mut unsteady = [0u8; 1024];
-    mark_differing(n, &level_before, &level_after, &mut unsteady);
-    mark_differing(n, &component_before, &component_after, &mut unsteady);
-    mark_differing(n, &above_before, &above_after, &mut unsteady);
+    mark_differing(n, &old_level, &level, &mut unsteady);
+    mark_differing(n, &old_component, &component, &mut unsteady);
+    mark_differing(n, &old_above, &above, &mut unsteady);
     let mut changed = [0u8; 1024];
-    mark_numbers(n, &component_before, &unsteady, &mut changed);
-    mark_numbers(n, &component_after, &unsteady, &mut changed);
+    mark_numbers(n, &old_component, &unsteady, &mut changed);
+    mark_numbers(n, &component, &unsteady, &mut changed);
     *stale = [0; 1024];
-    mark_lookers(starts, links, before, &changed, stale);
-    mark_lookers(starts, links, after, &changed, stale);
+    mark_lookers(
+        starts,
+        links,
+        &old_level,
+        &old_layer,
+        &old_component,
+        &changed,
+        stale,
+    );
+    mark_lookers(starts, links, &level, &layer, &component, &changed, stale);
 }

@@ -32,7 +32,7 @@ use Rattle.step.specs.declared.record.Record.{Record}
 -- ---- bytes
 
 -- a byte 1 at place x anchors x too
-pub anchored-set : (a : List ℕ) (x : ℕ) → x < length a → anchoredBy (set a x 1) ≡ adding (anchoredBy a) x
+anchored-set : (a : List ℕ) (x : ℕ) → x < length a → anchoredBy (set a x 1) ≡ adding (anchoredBy a) x
 anchored-set a x h = fun-ext (λ v. ap (λ z. eqb z 1) (set-reads a x 1 v (λ e. h)) ∙ by-case (eqb x v) (getD a v 0))
   where
     by-case : (b : Bool) (m : ℕ) → eqb (cond b 1 m) 1 ≡ eqb m 1 || b
@@ -50,7 +50,7 @@ admitted-set s l a x h b = record {
 }
 
 -- bytes that read alike anchor alike, and are admitted alike
-pub anchored-same : (a b : List ℕ) → ((v : ℕ) → getD b v 0 ≡ getD a v 0) → anchoredBy b ≡ anchoredBy a
+anchored-same : (a b : List ℕ) → ((v : ℕ) → getD b v 0 ≡ getD a v 0) → anchoredBy b ≡ anchoredBy a
 anchored-same a b e = fun-ext (λ v. ap (λ z. eqb z 1) (e v))
 
 pub admitted-same : (s l a b : List ℕ) → ((v : ℕ) → getD b v 0 ≡ getD a v 0) → vertices s ≤ length b → Admitted s l a → Admitted s l b
@@ -142,8 +142,7 @@ module _ {s l a : List ℕ} {p : ℕ → Bool} {position : ℕ} {fol st : List �
 
 -- ---- the step
 
-module _ {s l : List ℕ} {kept : Record} (right : Right s l kept) (x : ℕ) (bx : x < vertices s) (free : T (not (anchoredBy (kept .anchored) x)))
-    {position : ℕ} {folNow stNow : List ℕ} {redone : ℕ} (r : Redone s l (set (kept .anchored) x 1) (recomputed (graphOf s l) (anchoredBy (kept .anchored)) (anchoredBy (set (kept .anchored) x 1))) position (kept .followers) (kept .stamp) folNow stNow redone (vertices s)) where
+module _ {s l : List ℕ} {kept : Record} (right : Right s l kept) (x : ℕ) (bx : x < vertices s) (free : T (not (anchoredBy (kept .anchored) x))) where
   abbrev G : Graph
   G = graphOf s l
 
@@ -162,65 +161,67 @@ module _ {s l : List ℕ} {kept : Record} (right : Right s l kept) (x : ℕ) (bx
   bytes-after : anchoredBy bytes ≡ adding A x
   bytes-after = anchored-set (kept .anchored) x (omega (arith, right .admitted .long))
 
-  fresh-counts : Renewed (recomputed G A (adding A x)) (followers G (adding A x)) (kept .followers) folNow (vertices s)
-      → Holds (set folNow x 65535) (vertices s) (followerCount G (adding A x))
-  unfolding followerCount
-  fresh-counts counts v h =
-      set-reads folNow x 65535 v (λ e. omega (arith, r .counts-long, right .counts-long))
-      ∙ ap (cond (eqb x v) 65535) (renewed-all (recomputed G A (adding A x)) (followers G (adding A x)) (kept .followers) folNow (vertices s) counts v h)
-      ∙ ap (λ z. cond (eqb x v) 65535 (cond (recomputed G A (adding A x) v) (followers G (adding A x) v) z)) (right .counts v h)
-      ∙ renewed-fresh G A x (followers G) v (λ t k. kept-followers G (simple (right .admitted .table)) A x v h t k)
+  -- where the recomputed rows are counted afresh and stamped
+  module _ {position : ℕ} {folNow stNow : List ℕ} {redone : ℕ} (r : Redone s l bytes (recomputed G A (anchoredBy bytes)) position (kept .followers) (kept .stamp) folNow stNow redone (vertices s)) where
+    fresh-counts : Renewed (recomputed G A (adding A x)) (followers G (adding A x)) (kept .followers) folNow (vertices s)
+        → Holds (set folNow x 65535) (vertices s) (followerCount G (adding A x))
+    unfolding followerCount
+    fresh-counts counts v h =
+        set-reads folNow x 65535 v (λ e. omega (arith, r .counts-long, right .counts-long))
+        ∙ ap (cond (eqb x v) 65535) (renewed-all (recomputed G A (adding A x)) (followers G (adding A x)) (kept .followers) folNow (vertices s) counts v h)
+        ∙ ap (λ z. cond (eqb x v) 65535 (cond (recomputed G A (adding A x) v) (followers G (adding A x) v) z)) (right .counts v h)
+        ∙ renewed-fresh G A x (followers G) v (λ t k. kept-followers G (simple (right .admitted .table)) A x v h t k)
 
-  -- with 65,535 put at x the follower counts are right
-  counts-after : Holds (set folNow x 65535) (vertices s) (followerCount G (anchoredBy bytes))
-  counts-after = subst (λ B. Renewed (recomputed G A B) (followers G B) (kept .followers) folNow (vertices s) → Holds (set folNow x 65535) (vertices s) (followerCount G B))
-      (sym bytes-after) fresh-counts (r .counts)
+    -- with 65,535 put at x the follower counts are right
+    counts-after : Holds (set folNow x 65535) (vertices s) (followerCount G (anchoredBy bytes))
+    counts-after = subst (λ B. Renewed (recomputed G A B) (followers G B) (kept .followers) folNow (vertices s) → Holds (set folNow x 65535) (vertices s) (followerCount G B))
+        (sym bytes-after) fresh-counts (r .counts)
 
-  fresh-stamps : Renewed (recomputed G A (adding A x)) (λ v. position) (kept .stamp) stNow (vertices s) → Holds (set stNow x position) (vertices s) (turn G position x S .stamps)
-  fresh-stamps stamps v h =
-      set-reads stNow x position v (λ e. omega (arith, r .stamps-long, right .stamps-long))
-      ∙ ap (cond (eqb x v) position) (renewed-all (recomputed G A (adding A x)) (λ v. position) (kept .stamp) stNow (vertices s) stamps v h)
-      ∙ either (eqb x v) (recomputed G A (adding A x) v)
-      ∙ ap (λ P. P .stamps v) (sym (turn-accepted G S x position accepted))
-    where
-      either : (b c : Bool) → cond b position (cond c position (getD (kept .stamp) v 0)) ≡ cond (b || c) position (getD (kept .stamp) v 0)
-      either true c = refl
-      either false c = refl
+    fresh-stamps : Renewed (recomputed G A (adding A x)) (λ v. position) (kept .stamp) stNow (vertices s) → Holds (set stNow x position) (vertices s) (turn G position x S .stamps)
+    fresh-stamps stamps v h =
+        set-reads stNow x position v (λ e. omega (arith, r .stamps-long, right .stamps-long))
+        ∙ ap (cond (eqb x v) position) (renewed-all (recomputed G A (adding A x)) (λ v. position) (kept .stamp) stNow (vertices s) stamps v h)
+        ∙ either (eqb x v) (recomputed G A (adding A x) v)
+        ∙ ap (λ P. P .stamps v) (sym (turn-accepted G S x position accepted))
+      where
+        either : (b c : Bool) → cond b position (cond c position (getD (kept .stamp) v 0)) ≡ cond (b || c) position (getD (kept .stamp) v 0)
+        either true c = refl
+        either false c = refl
 
-  -- with the position put at x the stamps are those of the plain session's turn
-  stamps-after : Holds (set stNow x position) (vertices s) (turn G position x S .stamps)
-  stamps-after = subst (λ B. Renewed (recomputed G A B) (λ v. position) (kept .stamp) stNow (vertices s) → Holds (set stNow x position) (vertices s) (turn G position x S .stamps))
-      (sym bytes-after) fresh-stamps (r .stamps)
+    -- with the position put at x the stamps are those of the plain session's turn
+    stamps-after : Holds (set stNow x position) (vertices s) (turn G position x S .stamps)
+    stamps-after = subst (λ B. Renewed (recomputed G A B) (λ v. position) (kept .stamp) stNow (vertices s) → Holds (set stNow x position) (vertices s) (turn G position x S .stamps))
+        (sym bytes-after) fresh-stamps (r .stamps)
 
-  -- the numbers are those of the request
-  row-after : rowOf G S x ≡ record { status = 0; lifted = followers G A x; redone = redone }
-  row-after = row-accepted G S x accepted
-      ∙ ap (λ (n : ℕ). record { status = 0; lifted = followers G A x; redone = n }) (ap (λ B. count (recomputed G A B) (below (vertices s))) (sym bytes-after) ∙ sym (r .number))
+    -- the numbers are those of the request
+    row-after : rowOf G S x ≡ record { status = 0; lifted = followers G A x; redone = redone }
+    row-after = row-accepted G S x accepted
+        ∙ ap (λ (n : ℕ). record { status = 0; lifted = followers G A x; redone = n }) (ap (λ B. count (recomputed G A B) (below (vertices s))) (sym bytes-after) ∙ sym (r .number))
 
-  -- the count that the record has for x is the number lifted
-  counted : getD (kept .followers) x 0 ≡ followers G A x
-  unfolding followerCount
-  counted = right .counts x bx ∙ ap (λ b. cond b 65535 (followers G A x)) (false-of (A x) free)
+    -- the count that the record has for x is the number lifted
+    counted : getD (kept .followers) x 0 ≡ followers G A x
+    unfolding followerCount
+    counted = right .counts x bx ∙ ap (λ b. cond b 65535 (followers G A x)) (false-of (A x) free)
 
-  row-counted : rowAs (record { status = 0; lifted = getD (kept .followers) x 0; redone = redone }) ≡ rowOf G S x
-  row-counted = ap (λ (n : ℕ). rowAs (record { status = 0; lifted = n; redone = redone })) counted ∙ sym row-after
+    row-counted : rowAs (record { status = 0; lifted = getD (kept .followers) x 0; redone = redone }) ≡ rowOf G S x
+    row-counted = ap (λ (n : ℕ). rowAs (record { status = 0; lifted = n; redone = redone })) counted ∙ sym row-after
 
-  -- so the fresh columns and these rows are one turn of the plain session
-  pub turned : {columns : Columns} → Admitted s l bytes → ColumnsOf G (anchoredBy bytes) columns → Turned s l position x kept (record {
-    kept = record { anchored = bytes; columns = columns; followers = set folNow x 65535; stamp = set stNow x position };
-    row = record { status = 0; lifted = getD (kept .followers) x 0; redone = redone };
-  })
-  turned admits defined = record {
-    right = record {
-      admitted = admits;
-      columns = defined;
-      counts = counts-after;
-      counts-long = omega (arith, length-set folNow x 65535, r .counts-long, right .counts-long);
-      stamps-long = omega (arith, length-set stNow x position, r .stamps-long, right .stamps-long);
-    };
-    stands = record { anchors = bytes-after ∙ ap (λ P. P .anchors) (sym (turn-accepted G S x position accepted)); stamps = stamps-after };
-    row = row-counted;
-  }
+    -- so the fresh columns and these rows are one turn of the plain session
+    pub turned : {columns : Columns} → Admitted s l bytes → ColumnsOf G (anchoredBy bytes) columns → Turned s l position x kept (record {
+      kept = record { anchored = bytes; columns = columns; followers = set folNow x 65535; stamp = set stNow x position };
+      row = record { status = 0; lifted = getD (kept .followers) x 0; redone = redone };
+    })
+    turned admits defined = record {
+      right = record {
+        admitted = admits;
+        columns = defined;
+        counts = counts-after;
+        counts-long = omega (arith, length-set folNow x 65535, r .counts-long, right .counts-long);
+        stamps-long = omega (arith, length-set stNow x position, r .stamps-long, right .stamps-long);
+      };
+      stands = record { anchors = bytes-after ∙ ap (λ P. P .anchors) (sym (turn-accepted G S x position accepted)); stamps = stamps-after };
+      row = row-counted;
+    }
 
 -- ---- the session
 

@@ -12,20 +12,20 @@ use Rattle.stale.proofs.mark_lookers.Statement.{statement}
 use Rattle.stale.proofs.mark_lookers.Tie as tie
 
 abbrev Inv-loop : tie.InvT-loop
-Inv-loop starts links changed stale₀ n level layer component u₀ stale u = (u ≤ n) × Added (upTo (looksBy starts links level layer component changed) u) stale₀ stale
+Inv-loop starts links level layer component changed stale₀ n u₀ stale u = (u ≤ n) × Added (upTo (looksBy starts links level layer component changed) u) stale₀ stale
 
 abbrev μ-loop : tie.MeasureT-loop
-μ-loop starts links changed stale₀ n level layer component u₀ stale u = n - u
+μ-loop starts links level layer component changed stale₀ n u₀ stale u = n - u
 
 -- what is looked for
 abbrev test : tie.Start Inv-loop μ-loop → ℕ → Bool
-test c = let args = c .args in looksBy (args .starts .now) (args .links .now) (args .columns .level) (args .columns .layer) (args .columns .component) (args .changed .now)
+test c = let args = c .args in looksBy (args .starts .now) (args .links .now) (args .level .now) (args .layer .now) (args .component .now) (args .changed .now)
 
 sub-n : tie.Need-sub-n Inv-loop μ-loop
 sub-n c = search needs
 
 loop-holds : tie.Need-loop-holds Inv-loop μ-loop
-loop-holds c = (search needs, adds-none (test (c .before .before .before .before .before)) _ (c .before .before .before .before .before .pre .1))
+loop-holds c = (search needs, adds-none (test (c .before .before)) _ (c .before .before .pre .1))
 
 looks-requires : tie.Need-looks-requires Inv-loop μ-loop
 looks-requires c κs = search needs
@@ -41,8 +41,8 @@ loop-less c = search needs
 
 loop-again : tie.Need-loop-again Inv-loop μ-loop
 loop-again c =
-    let at = c .before .before .before .before .before .before in
-    let start = at .before .before .before .before .before .before in
+    let at = c .before .before .before in
+    let start = at .before .before .before in
     let small = start .pre .0 .small in
     let told = sym (c .before .looks .ensures) in
     let so = at .loop .inv .1 in (
@@ -56,7 +56,7 @@ loop-again c =
 returns : tie.Need-returns Inv-loop μ-loop
 returns c =
     let at = c .before in
-    let start = at .before .before .before .before .before .before in
+    let start = at .before .before .before in
     let end : at .loop .u ≡ vertices (start .args .starts .now) = omega arith in
     subst (λ z. Added (upTo (test start) z) (start .args .stale .now) (at .loop .stale)) end (at .loop .inv .1)
 

@@ -9,7 +9,7 @@ use Rattle.stale.proofs.mark_stale.Tie as tie
 
 -- the passes, each seen from the one after it, and the entry
 abbrev start : tie.After-mark-differing → tie.Start
-start c = c .before .before .before .before .before .before .before .before .before .before .before .before
+start c = c .before .before .before .before .before .before .before .before .before .before .before .before .before .before
 
 abbrev by-level : tie.After-mark-differing2 → tie.After-mark-differing
 by-level c = c .before .before .before .before
@@ -24,7 +24,7 @@ abbrev numbered : tie.After-mark-numbers2 → tie.After-mark-numbers
 numbered c = c .before .before .before .before
 
 abbrev marked : tie.After-mark-lookers → tie.After-mark-numbers2
-marked c = c .before .before .before .before
+marked c = c .before .before .before .before .before .before .before
 
 sub-n : tie.Need-sub-n
 sub-n c = search needs
@@ -47,16 +47,16 @@ mark-numbers-requires-2 c κs =
     (omega (arith, start (by-level (by-number (compared pass))) .pre .small), pass .mark-numbers .ensures .long)
 
 mark-lookers-requires : tie.Need-mark-lookers-requires
-mark-lookers-requires c κs = (start (by-level (by-number (compared (numbered (c .before .before .before))))) .pre, length-replicate {A = ℕ} 1024 0)
+mark-lookers-requires c κs = (start (by-level (by-number (compared (numbered (c .before .before .before .before .before .before))))) .pre, length-replicate {A = ℕ} 1024 0)
 
 mark-lookers-requires-2 : tie.Need-mark-lookers-requires-2
 mark-lookers-requires-2 c κs =
-    let pass = c .before .before in
+    let pass = c .before .before .before .before .before in
     (start (by-level (by-number (compared (numbered (marked pass))))) .pre, pass .mark-lookers .ensures .long)
 
 returns : tie.Need-returns
 returns c =
-    let lookers = c .before .before .before in
+    let lookers = c .before .before .before .before .before .before in
     let numbers = marked lookers in
     let aboves = compared (numbered numbers) in
     let components = by-number aboves in

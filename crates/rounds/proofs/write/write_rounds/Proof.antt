@@ -40,7 +40,7 @@ play-requires c κs =
     (now .keeps .right, playing-room now _ (c .before .loop-test .taken) (entry head .pre .1 .1))
 
 add-i : tie.Need-add-i Inv-loop μ-loop
-add-i c = add-play (c .before .before .before .before .before)
+add-i c = omega (arith, c .before .before .before .before .before .loop-test .taken, entry (c .before .before .before .before .before .before) .fits)
 
 loop-less : tie.Need-loop-less Inv-loop μ-loop
 loop-less c = search needs

@@ -4,16 +4,24 @@ use Prim.Native.Nat.{ℕ}
 use native.Mathlib.Omega.{arith}
 use Rattle.table.specs.declared.Guard.the-variants.{Passed}
 use Rattle.table.proofs.Guards.{handed, cleared}
-use Rattle.session.specs.Run.{slices, runOf}
+use Rattle.session.specs.Run.{Slices, slices, runOf}
 use Rattle.session.proofs.Serving.{run-ready}
 use Rattle.session.proofs.Claims.{session-claim}
 use borrow.Author.Needs.{needs}
 use Rattle.session.proofs.run.run.Statement.{statement}
 use Rattle.session.proofs.run.run.Tie as tie
 
+-- the entry, seen from the answer, and the slices lent
+abbrev start : tie.After-enum-told → tie.Start
+start c = c .before .before .before .before .before .before .before .before .before .before .before .before .before .before .before .before .before .before
+
+abbrev lent : tie.Start → Slices
+lent c =
+    let args = c .args in
+    slices (args .anchored .now) (args .levels .now) (args .layers .now) (args .components .now) (args .followers .now) (args .stamps .now) (args .status .now) (args .lifted .now) (args .redone .now)
+
 -- the answer is that nothing is refused
-told : (c : tie.After-enum-told) → let args = c .before .before .before .before .before .before .before .before .before .before .before .before .before .before .before .before .before .before .args in
-    runOf (args .starts .now) (args .links .now) (args .given .now) (args .requests .now) (slices (args .anchored .now) (args .levels .now) (args .layers .now) (args .components .now) (args .followers .now) (args .stamps .now) (args .status .now) (args .lifted .now) (args .redone .now)) ≡ Passed
+told : (c : tie.After-enum-told) → let args = start c .args in runOf (args .starts .now) (args .links .now) (args .given .now) (args .requests .now) (lent (start c)) ≡ Passed
 told c = sym (c .before .before .admit .ensures) ∙ c .enum-told .given .1
 
 -- the call, seen from the end
@@ -38,10 +46,8 @@ enum-told c = search needs
 write-requires : tie.Need-write-requires
 write-requires c κs =
     let told-at = c .before .before .before .before .before .before .before .before .before in
-    let args = told-at .before .before .before .before .before .before .before .before .before .before .before .before .before .before .before .before .before .before .args in
-    run-ready (args .starts .now) (args .links .now) (args .given .now) (args .requests .now)
-    (slices (args .anchored .now) (args .levels .now) (args .layers .now) (args .components .now) (args .followers .now) (args .stamps .now) (args .status .now) (args .lifted .now) (args .redone .now))
-    (told told-at)
+    let args = start told-at .args in
+    run-ready (args .starts .now) (args .links .now) (args .given .now) (args .requests .now) (lent (start told-at)) (told told-at)
 
 returns : tie.Need-returns
 returns c =
