@@ -14,7 +14,7 @@ use Rattle.table.specs.declared.Guard.{Guard}
 use Rattle.table.specs.declared.Guard.the-variants.{Passed, Refused}
 use Rattle.table.proofs.Guards.{both-passed}
 use Rattle.table.proofs.Laws.{went-on, sound}
-use Rattle.shells.specs.Input.{graphOf, anchoredBy, Admitted}
+use Rattle.pool.specs.Input.{graphOf, anchoredBy, Admitted}
 use Rattle.text.specs.declared.read.Summary.{Summary}
 use Rattle.sheet.specs.Written.{Written}
 use Rattle.sheet.proofs.Lines.{sheet-length}

@@ -12,7 +12,7 @@ use Rattle.table.specs.Table.{vertices}
 use Rattle.table.specs.Guard.{refused}
 use Rattle.table.specs.declared.Guard.the-variants.{Passed}
 use Rattle.table.proofs.Laws.{went-on}
-use Rattle.shells.specs.Input.{graphOf}
+use Rattle.pool.specs.Input.{graphOf}
 use Rattle.text.specs.Text.{readingOf, startsRead, linksRead, retainedRead}
 use Rattle.text.specs.declared.read.Summary.{Summary}
 use Rattle.text.specs.declared.read.Reading.{Reading}

@@ -14,7 +14,7 @@ use Rattle.finite.proofs.Count.{length-tabulate, tabulate-at, bit-one, bit-le}
 use Rattle.finite.proofs.Search.{member-e}
 use Rattle.table.specs.Guard.{refused, answer}
 use Rattle.table.specs.declared.Refusal.{Refusal}
-use Rattle.shells.specs.Input.{anchoredBy}
+use Rattle.pool.specs.Input.{anchoredBy}
 use Rattle.lines.specs.List.{anchor, firstBeyond}
 use Rattle.text.specs.Text.{readingOf, riderLinesRead, startsRead, linksRead, retainedRead}
 use Rattle.text.specs.declared.read.Summary.{Summary}

@@ -9,7 +9,7 @@ use Rattle.table.specs.Table.{vertices, checkOf}
 use Rattle.table.specs.Guard.{refused, answer, past}
 use Rattle.table.specs.declared.Guard.{Guard}
 use Rattle.table.specs.declared.Guard.the-variants.{Passed}
-use Rattle.shells.specs.Input.{graphOf}
+use Rattle.pool.specs.Input.{graphOf}
 use Rattle.text.specs.Text.{readingOf, startsRead, linksRead, retainedRead}
 use Rattle.text.specs.declared.read.Summary.{Summary}
 use Rattle.text.specs.declared.read.Reading.the-variants.{Read, Departs}

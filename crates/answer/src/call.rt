@@ -4,7 +4,7 @@ ghost use Prim.Native.Nat.{ℕ, _+_, _≤_, _<_};
 ghost use lib.ListN.{length, getD, take};
 ghost use Rattle.finite.specs.Moments.{old, final};
 ghost use Rattle.table.specs.Guard.{answer, held, front};
-ghost use Rattle.shells.specs.Input.{anchoredBy};
+ghost use Rattle.pool.specs.Input.{anchoredBy};
 ghost use Rattle.answer.specs.Answer.{roomOf, askedOf, textOf, answerOf, roundsSheet, sheetOfText};
 ghost use Rattle.answer.specs.declared.call.Answered.the-variants.{Sheet, Refused};
 

@@ -23,11 +23,11 @@ use Rattle.anchored.specs.Graph.{Graph, Simple}
 use Rattle.anchored.specs.Core.{level, layer, greater}
 use Rattle.anchored.specs.Followers.{firstStep, Walk, start, step, candidates}
 use Rattle.anchored.proofs.Candidates.{walk-lt, candidates-unique}
-use Rattle.shells.specs.Input.{graphOf, anchoredBy}
-use Rattle.shells.specs.Arrays.{Holds}
-use Rattle.shells.specs.Sheet.{Sheet}
+use Rattle.pool.specs.Input.{graphOf, anchoredBy}
+use Rattle.pool.specs.Arrays.{Holds}
+use Rattle.pool.specs.Sheet.{Sheet}
 use Rattle.candidates.specs.Reaching.{alike, greaterOf, stepsOf, visit, visitAll, Queued}
-use Rattle.shells.proofs.Laws.{simple, free-byte, byte-free}
+use Rattle.pool.proofs.Laws.{simple, free-byte, byte-free}
 
 -- ---- a visit
 

@@ -11,7 +11,7 @@ use Rattle.finite.specs.Sets.{has}
 use Rattle.finite.specs.Pairs.{pairLe}
 use Rattle.table.specs.Table.{vertices}
 use Rattle.anchored.specs.Followers.{candidates}
-use Rattle.shells.specs.Input.{graphOf, anchoredBy}
+use Rattle.pool.specs.Input.{graphOf, anchoredBy}
 
 -- two vertices of one level
 abbrev pub alike : List ℕ → ℕ → ℕ → Bool

@@ -4,9 +4,9 @@ ghost use Prim.Native.Nat.{_<_};
 ghost use lib.ListN.{length, take};
 ghost use Rattle.finite.specs.Moments.{old, final};
 ghost use Rattle.table.specs.Table.{vertices, neighbors as neighborsOf};
-ghost use Rattle.shells.specs.Sheet.{Sheet};
+ghost use Rattle.pool.specs.Sheet.{Sheet};
 ghost use Rattle.candidates.specs.Reaching.{stepsOf, visitAll, Queued, Reached};
-use shells::pair::is_above;
+use pool::pair::is_above;
 
 // Puts the candidates into the queue and marks them 2; how many there are.
 pub fn reach(

@@ -4,7 +4,7 @@ use Prim.Native.Nat.{ℕ}
 use Rattle.finite.specs.Count.{tabulate}
 use Rattle.table.specs.Table.{vertices}
 use Rattle.anchored.specs.Collapse.{fallMark}
-use Rattle.shells.specs.Input.{graphOf, anchoredBy}
+use Rattle.pool.specs.Input.{graphOf, anchoredBy}
 
 -- 1 for those whose level falls with x collapsed, 0 for all others
 abbrev pub fallMarksOf : List ℕ → List ℕ → List ℕ → ℕ → List ℕ

@@ -11,26 +11,26 @@ use Rattle.table.specs.declared.Guard.the-variants.{Passed, Refused}
 use Rattle.table.proofs.Guards.{handed, cleared}
 use Rattle.anchored.specs.Component.{heads}
 use Rattle.anchored.proofs.Ranked.{ranked-length}
-use Rattle.shells.specs.Input.{graphOf, anchoredBy}
-use Rattle.shells.proofs.Laws.{simple}
-use Rattle.level.specs.Answers.{workOf}
-use Rattle.level.proofs.Answers.{work-sound}
+use Rattle.pool.specs.Input.{graphOf, anchoredBy}
+use Rattle.pool.proofs.Laws.{simple}
+use Rattle.pool.specs.Lengths.{slicesOf}
+use Rattle.pool.proofs.Lengths.{slices-sound}
 use Rattle.components.specs.Answers.{listOf, numbersOf}
 use Rattle.components.specs.declared.Listed.the-variants.{Count, Refused as ListRefused}
 
 module _ (s l a lengths : List ℕ) where
-  pub list-count : workOf s l a lengths ≡ Passed → listOf s l a lengths ≡ Count (count (heads (graphOf s l) (anchoredBy a)) (below (vertices s)))
+  pub list-count : slicesOf s l a lengths ≡ Passed → listOf s l a lengths ≡ Count (count (heads (graphOf s l) (anchoredBy a)) (below (vertices s)))
   unfolding listOf
   list-count e = cleared _ _ e
 
   -- the count answered is the list's length
   pub list-length : {c : ℕ} → listOf s l a lengths ≡ Count c → c ≡ length (numbersOf s l a)
   unfolding listOf
-  list-length {c} h = by-answer (workOf s l a lengths) refl
+  list-length {c} h = by-answer (slicesOf s l a lengths) refl
     where
-      by-answer : (w : Guard) → workOf s l a lengths ≡ w → c ≡ length (numbersOf s l a)
+      by-answer : (w : Guard) → slicesOf s l a lengths ≡ w → c ≡ length (numbersOf s l a)
       by-answer Passed e =
           let same : Count c ≡ Count (count (heads (graphOf s l) (anchoredBy a)) (below (vertices s))) = sym h ∙ list-count e in
           let counted : c ≡ count (heads (graphOf s l) (anchoredBy a)) (below (vertices s)) = cc in
-          counted ∙ sym (ranked-length (graphOf s l) (simple (work-sound s l a lengths e .0 .table)) (anchoredBy a))
+          counted ∙ sym (ranked-length (graphOf s l) (simple (slices-sound s l a lengths e .0 .table)) (anchoredBy a))
       by-answer (Refused x) e = let other : ListRefused x ≡ Count c = sym (handed _ _ e) ∙ h in let z : _≡_ {A = ℕ} 0 1 = cc in absurd (omega arith)

@@ -17,9 +17,10 @@ use Rattle.anchored.specs.Core.{level}
 use Rattle.anchored.specs.Component.{component, together, heads, componentSize, ranked}
 use Rattle.anchored.proofs.Core.{level-lt}
 use Rattle.anchored.proofs.Ranked.{ranked-in, ranked-length}
-use Rattle.shells.specs.Arrays.{Holds}
+use Rattle.pool.specs.Arrays.{Holds}
 use Rattle.table.specs.Guard.{front}
-use Rattle.components.specs.Entries.{numbered, members, rankedIn, Low, Placed}
+use Rattle.ranking.specs.Ranking.{numbered, rankedIn, Low}
+use Rattle.components.specs.Entries.{members, Placed}
 
 -- ---- counting members
 

@@ -1,3 +1,2 @@
-pub mod Answers
-pub mod Chains
 pub mod Entries
+pub mod Answers

@@ -6,14 +6,14 @@ use Rattle.table.specs.Table.{vertices}
 use Rattle.table.specs.Guard.{answer}
 use Rattle.anchored.specs.Core.{level}
 use Rattle.anchored.specs.Component.{heads, componentSize, ranked}
-use Rattle.shells.specs.Input.{graphOf, anchoredBy}
-use Rattle.level.specs.Answers.{workOf}
+use Rattle.pool.specs.Input.{graphOf, anchoredBy}
+use Rattle.pool.specs.Lengths.{slicesOf}
 use Rattle.components.specs.declared.Listed.{Listed}
 use Rattle.components.specs.declared.Listed.the-variants.{Count, Refused}
 
 -- refused as the working of the sheet is; else how many components there are
 unfoldable pub listOf : List ℕ → List ℕ → List ℕ → List ℕ → Listed
-listOf s l a lengths = answer (workOf s l a lengths) (Count (count (heads (graphOf s l) (anchoredBy a)) (below (vertices s)))) Refused
+listOf s l a lengths = answer (slicesOf s l a lengths) (Count (count (heads (graphOf s l) (anchoredBy a)) (below (vertices s)))) Refused
 
 module _ (s l a : List ℕ) where
   -- the numbers of the component list

@@ -1,3 +1,2 @@
-pub mod Answers
 pub mod Entries
-pub mod Chains
+pub mod Answers

@@ -8,13 +8,12 @@ ghost use Rattle.finite.specs.Count.{count as countIn, below};
 ghost use Rattle.table.specs.Table.{vertices};
 ghost use Rattle.table.specs.Guard.{held, front};
 ghost use Rattle.anchored.specs.Component.{heads};
-ghost use Rattle.shells.specs.Input.{graphOf, anchoredBy, Admitted};
-ghost use Rattle.shells.specs.Arrays.{Holds};
-ghost use Rattle.level.specs.Answers.{workOf};
+ghost use Rattle.pool.specs.Input.{graphOf, anchoredBy, Admitted};
+ghost use Rattle.pool.specs.Arrays.{Holds};
+ghost use Rattle.pool.specs.Lengths.{slicesOf};
 ghost use Rattle.components.specs.Answers.{listOf, numbersOf, levelsOf, sizesOf};
-ghost use Rattle.components.specs.Entries.{members, rankedIn, Low, Placed};
-
-mod rank; // the order of the list
+ghost use Rattle.ranking.specs.Ranking.{rankedIn, Low};
+ghost use Rattle.components.specs.Entries.{members, Placed};
 
 // The answer of the list: how many components it has, or a refusal.
 pub enum Listed {
@@ -70,7 +69,7 @@ fn list(
     ensures sizes { λ _. ⌜ final sizes ≡ front (map (λ v. getD (old size) v 0) (rankedIn (old level) (old component) n n)) (old sizes) ⌝ }
     ensures numbers { λ _. ⌜ final numbers ≡ front (rankedIn (old level) (old component) n n) (old numbers) ⌝ }
 {
-    let count = rank::rank(n, level, component, numbers);
+    let count = ranking::rank(n, level, component, numbers);
     gather(count, numbers, level, levels);
     gather(count, numbers, size, sizes);
     count
@@ -120,13 +119,13 @@ pub fn list_components(
 ) -> Listed
     ensures { λ r.
         let lengths = map length (old levels ∷ old sizes ∷ old numbers ∷ []) in
-        let guard = workOf (old starts) (old links) (old anchored) lengths in
+        let guard = slicesOf (old starts) (old links) (old anchored) lengths in
         ⌜ (r ≡ listOf (old starts) (old links) (old anchored) lengths)
         × (final levels ≡ held guard (front (levelsOf (old starts) (old links) (old anchored)) (old levels)) (old levels))
         × (final sizes ≡ held guard (front (sizesOf (old starts) (old links) (old anchored)) (old sizes)) (old sizes))
         × (final numbers ≡ held guard (front (numbersOf (old starts) (old links) (old anchored)) (old numbers)) (old numbers)) ⌝ }
 {
-    let admitted = level::work::admit_slices(
+    let admitted = pool::lent::admit_slices(
         starts,
         links,
         anchored,

@@ -1,5 +1,2 @@
-// The operations on level sheets: working one and checking one.
-pub mod sheet; // the check of a level sheet
-pub mod vertex; // the refusals of an operation with a sheet and a vertex
-pub mod lent; // the lent slices
+// The level work as an operation.
 pub mod work; // the level sheet with components

@@ -8,36 +8,15 @@ ghost use Rattle.table.specs.Table.{vertices};
 ghost use Rattle.table.specs.Guard.{answer, held};
 ghost use Rattle.anchored.specs.Core.{level as levelOf, layer as layerOf};
 ghost use Rattle.anchored.specs.Component.{component as componentOf};
-ghost use Rattle.shells.specs.Input.{graphOf, anchoredBy, Admitted};
-ghost use Rattle.shells.specs.Arrays.{Holds};
-ghost use Rattle.level.specs.Answers.{workOf};
+ghost use Rattle.pool.specs.Input.{graphOf, anchoredBy, Admitted};
+ghost use Rattle.pool.specs.Arrays.{Holds};
+ghost use Rattle.pool.specs.Lengths.{slicesOf};
 ghost use Rattle.level.specs.declared.work.Worked.the-variants.{Done, Refused};
 
 // The answer of the working: the slices are filled, or a refusal.
 pub enum Worked {
     Done,
     Refused(table::Refusal),
-}
-
-// Refusals 1 to 10, and 12 for lent slices of which not all are of n, or `Passed`.
-pub fn admit_slices(
-    starts: &[u16],
-    links: &[u16],
-    anchored: &[u8],
-    lengths: &[usize],
-) -> table::Guard
-    ensures { λ r. ⌜ r ≡ workOf (old starts) (old links) (old anchored) (old lengths) ⌝ }
-{
-    let admitted = shells::input::admit(starts, links, anchored);
-    match admitted {
-        table::Guard::Refused(refusal) => table::Guard::Refused(refusal),
-        table::Guard::Passed => {
-            if crate::lent::all_are(lengths, starts.len() - 1) {
-                return table::Guard::Passed;
-            }
-            table::refused(12, 0)
-        }
-    }
 }
 
 // Levels, layers and components of an admitted table, into the first n places of scratch arrays.
@@ -54,8 +33,8 @@ pub fn fill(
     ensures layers { λ _. ⌜ Holds (final layer) (vertices (old starts)) (layerOf (graphOf (old starts) (old links)) (anchoredBy (old anchored))) ⌝ }
     ensures components { λ _. ⌜ Holds (final component) (vertices (old starts)) (componentOf (graphOf (old starts) (old links)) (anchoredBy (old anchored))) ⌝ }
 {
-    shells::peel::peel(starts, links, anchored, level, layer);
-    shells::flood::flood(starts, links, anchored, &level[..], component);
+    peel::peel(starts, links, anchored, level, layer);
+    flood::flood(starts, links, anchored, &level[..], component);
 }
 
 // Levels, layers and components of an admitted table, into slices of n.
@@ -86,9 +65,9 @@ fn write_sheet(
         &mut layer,
         &mut component,
     );
-    crate::lent::copy(&level, levels);
-    crate::lent::copy(&layer, layers);
-    crate::lent::copy(&component, components);
+    pool::lent::copy(&level, levels);
+    pool::lent::copy(&layer, layers);
+    pool::lent::copy(&component, components);
 }
 
 // Levels, layers and components of a table with anchored vertices; a refusal leaves the slices as they are.
@@ -103,13 +82,13 @@ pub fn work(
     ensures { λ r.
         let G = graphOf (old starts) (old links) in
         let A = anchoredBy (old anchored) in
-        let guard = workOf (old starts) (old links) (old anchored) (map length (old levels ∷ old layers ∷ old components ∷ [])) in
+        let guard = slicesOf (old starts) (old links) (old anchored) (map length (old levels ∷ old layers ∷ old components ∷ [])) in
         ⌜ (r ≡ answer guard Done Refused)
         × (final levels ≡ held guard (tabulate (levelOf G A) (G .size)) (old levels))
         × (final layers ≡ held guard (tabulate (layerOf G A) (G .size)) (old layers))
         × (final components ≡ held guard (tabulate (componentOf G A) (G .size)) (old components)) ⌝ }
 {
-    let admitted = admit_slices(
+    let admitted = pool::lent::admit_slices(
         starts,
         links,
         anchored,

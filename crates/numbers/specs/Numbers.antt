@@ -7,14 +7,14 @@ use Rattle.table.specs.declared.Checked.{Checked}
 use Rattle.table.specs.declared.Checked.the-variants.{Sound, Refused as TableRefused}
 use Rattle.level.specs.declared.work.Worked.{Worked}
 use Rattle.level.specs.declared.work.Worked.the-variants.{Done, Refused as WorkRefused}
-use Rattle.level.specs.declared.sheet.SheetChecked.{SheetChecked}
-use Rattle.level.specs.declared.sheet.SheetChecked.the-variants.{Defined, Refused as LevelsRefused}
+use Rattle.level_sheet.specs.declared.check.SheetChecked.{SheetChecked}
+use Rattle.level_sheet.specs.declared.check.SheetChecked.the-variants.{Defined, Refused as LevelsRefused}
 use Rattle.components.specs.declared.Listed.{Listed}
 use Rattle.components.specs.declared.Listed.the-variants.{Count, Refused as ListRefused}
 use Rattle.search.specs.declared.operation.Searched.{Searched}
 use Rattle.search.specs.declared.operation.Searched.the-variants.{Found, Refused as SearchRefused}
-use Rattle.collapse.specs.declared.operation.Collapsed.{Collapsed}
-use Rattle.collapse.specs.declared.operation.Collapsed.the-variants.{Marked, Refused as CollapseRefused}
+use Rattle.collapse.specs.declared.Collapsed.{Collapsed}
+use Rattle.collapse.specs.declared.Collapsed.the-variants.{Marked, Refused as CollapseRefused}
 use Rattle.session.specs.declared.run.Ran.{Ran}
 use Rattle.session.specs.declared.run.Ran.the-variants.{Served, Refused as SessionRefused}
 use Rattle.answer.specs.declared.call.Answered.{Answered}

@@ -51,12 +51,12 @@ pub fn of_worked(worked: level::work::Worked) -> Answer
     }
 }
 
-pub fn of_levels(checked: level::sheet::SheetChecked) -> Answer
+pub fn of_levels(checked: level_sheet::check::SheetChecked) -> Answer
     ensures { λ r. ⌜ r ≡ levelsAs checked ⌝ }
 {
     match checked {
-        level::sheet::SheetChecked::Defined => accepted(0, 0),
-        level::sheet::SheetChecked::Refused(refusal) => refused(refusal),
+        level_sheet::check::SheetChecked::Defined => accepted(0, 0),
+        level_sheet::check::SheetChecked::Refused(refusal) => refused(refusal),
     }
 }
 

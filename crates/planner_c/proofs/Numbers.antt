@@ -9,12 +9,12 @@ use Rattle.table.specs.Guard.{refused, numberOf, answer}
 use Rattle.table.specs.declared.Guard.{Guard}
 use Rattle.table.specs.declared.Guard.the-variants.{Passed, Refused}
 use Rattle.table.proofs.Numbers.{Between, between-sound, between-next, between-past, zero-sound}
-use Rattle.shells.specs.Input.{admitOf}
-use Rattle.shells.proofs.Laws.{between-admit}
+use Rattle.pool.specs.Input.{admitOf}
+use Rattle.pool.proofs.Laws.{between-admit}
 use Rattle.session.specs.Run.{admitRun}
-use Rattle.level.specs.SheetCheck.{numberIn}
-use Rattle.level.specs.declared.sheet.SheetChecked.{SheetChecked}
-use Rattle.level.specs.declared.sheet.SheetChecked.the-variants.{Defined, Refused as LevelsRefused}
+use Rattle.level_sheet.specs.SheetCheck.{numberIn}
+use Rattle.level_sheet.specs.declared.check.SheetChecked.{SheetChecked}
+use Rattle.level_sheet.specs.declared.check.SheetChecked.the-variants.{Defined, Refused as LevelsRefused}
 use Rattle.numbers.specs.Numbers.{levelsAs, acceptedAs, refusedAs}
 
 -- of the check of a level sheet

@@ -8,10 +8,10 @@ ghost use Rattle.table.specs.Guard.{answer, held, front};
 ghost use Rattle.anchored.specs.Core.{level, layer};
 ghost use Rattle.anchored.specs.Component.{component, heads};
 ghost use Rattle.anchored.specs.Followers.{followers, reached};
-ghost use Rattle.shells.specs.Input.{graphOf, anchoredBy};
-ghost use Rattle.level.specs.SheetCheck.{checkSheetOf, Tells};
-ghost use Rattle.level.specs.Marking.{markingOf};
-ghost use Rattle.level.specs.Answers.{workOf};
+ghost use Rattle.pool.specs.Input.{graphOf, anchoredBy};
+ghost use Rattle.level_sheet.specs.SheetCheck.{checkSheetOf, Tells};
+ghost use Rattle.marking.specs.Marking.{markingOf};
+ghost use Rattle.pool.specs.Lengths.{slicesOf};
 ghost use Rattle.components.specs.Answers.{numbersOf, levelsOf, sizesOf};
 ghost use Rattle.search.specs.Answers.{searchOf, marksOf};
 ghost use Rattle.collapse.specs.Answers.{fallMarksOf};
@@ -30,7 +30,7 @@ pub extern "C" fn planner_work(
     ensures { λ r.
         let G = graphOf (old starts) (old links) in
         let A = anchoredBy (old anchored) in
-        let guard = workOf (old starts) (old links) (old anchored) (map length (old levels ∷ old layers ∷ old components ∷ [])) in
+        let guard = slicesOf (old starts) (old links) (old anchored) (map length (old levels ∷ old layers ∷ old components ∷ [])) in
         ⌜ (r ≡ answer guard (acceptedAs 0 0) refusedAs)
         × (final levels ≡ held guard (tabulate (level G A) (G .size)) (old levels))
         × (final layers ≡ held guard (tabulate (layer G A) (G .size)) (old layers))
@@ -49,7 +49,7 @@ pub extern "C" fn planner_list_components(
     numbers: &mut [u16],
 ) -> Answer
     ensures { λ r.
-        let guard = workOf (old starts) (old links) (old anchored) (map length (old levels ∷ old sizes ∷ old numbers ∷ [])) in
+        let guard = slicesOf (old starts) (old links) (old anchored) (map length (old levels ∷ old sizes ∷ old numbers ∷ [])) in
         let G = graphOf (old starts) (old links) in
         ⌜ (r ≡ answer guard (acceptedAs (count (heads G (anchoredBy (old anchored))) (below (G .size))) 0) refusedAs)
         × (final levels ≡ held guard (front (levelsOf (old starts) (old links) (old anchored)) (old levels)) (old levels))
@@ -70,7 +70,7 @@ pub extern "C" fn planner_check_sheet(
     ensures answer { λ r. ⌜ r ≡ answer (checkSheetOf (old starts) (old links) (old anchored) (old levels) (old layers)) (acceptedAs 0 0) refusedAs ⌝ }
     ensures tells { λ r. ⌜ Tells (old starts) (old links) (old anchored) (old levels) (old layers) (r .number) ⌝ }
 {
-    numbers::of_levels(level::sheet::check_sheet(starts, links, anchored, levels, layers))
+    numbers::of_levels(level_sheet::check::check_sheet(starts, links, anchored, levels, layers))
 }
 
 #[no_mangle]

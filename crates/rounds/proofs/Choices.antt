@@ -14,9 +14,9 @@ use Rattle.finite.proofs.Search.{all-below-i, all-below-e, first-hit, first-non
 use Rattle.table.specs.Table.{vertices}
 use Rattle.anchored.specs.Followers.{followers, followerCount, best, choice}
 use Rattle.anchored.proofs.Choice.{best-i, best-free, best-greatest}
-use Rattle.shells.specs.Input.{graphOf, anchoredBy}
-use Rattle.step.specs.Record.{Right}
-use Rattle.step.specs.declared.record.Record.{Record}
+use Rattle.pool.specs.Input.{graphOf, anchoredBy}
+use Rattle.records.specs.Record.{Right}
+use Rattle.records.specs.declared.Record.{Record}
 use Rattle.rounds.specs.Rounds.{bestBy, choiceBy}
 
 module _ (n : ℕ) (a fol : List ℕ) where

@@ -13,7 +13,7 @@ use Rattle.anchored.specs.Graph.{Graph}
 use Rattle.anchored.specs.Followers.{follows, mark, choice}
 use Rattle.anchored.specs.Session.{Plain, rowOf}
 use Rattle.anchored.proofs.Session.{mark-two}
-use Rattle.shells.specs.Arrays.{Holds}
+use Rattle.pool.specs.Arrays.{Holds}
 use Rattle.sheet.specs.Line.{sign, signAt, liftedBy, roundPart, retainPart, redonePart, lineOf}
 use Rattle.sheet.specs.declared.line.Chosen.{Chosen}
 use Rattle.sheet.specs.declared.line.Chosen.the-variants.{Vertex, Nobody}

@@ -15,11 +15,12 @@ use Rattle.anchored.specs.Graph.{Graph}
 use Rattle.anchored.specs.Followers.{mark, choice}
 use Rattle.anchored.specs.Session.{Plain, turn, rowOf, after}
 use Rattle.anchored.proofs.Choice.{choice-best, best-free}
-use Rattle.shells.specs.Input.{graphOf, anchoredBy}
-use Rattle.shells.specs.Arrays.{Holds}
-use Rattle.step.specs.Record.{Right, plainOf, Stands, Turned, Keeps, sessionOf}
-use Rattle.step.specs.declared.record.Record.{Record}
-use Rattle.step.specs.declared.record.Stepped.{Stepped}
+use Rattle.pool.specs.Input.{graphOf, anchoredBy}
+use Rattle.pool.specs.Arrays.{Holds}
+use Rattle.records.specs.Record.{Right, plainOf, Stands, Keeps, sessionOf}
+use Rattle.step.specs.Turn.{Turned}
+use Rattle.records.specs.declared.Record.{Record}
+use Rattle.step.specs.declared.Stepped.{Stepped}
 use Rattle.step.proofs.Steps.{stands-turn, refused-vertex}
 use Rattle.sheet.specs.Written.{Written}
 use Rattle.sheet.specs.Line.{Round, liftedBy, lineOf, sheetFrom, sheetOf}

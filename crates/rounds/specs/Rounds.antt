@@ -9,7 +9,7 @@ use Rattle.finite.specs.Search.{all, first}
 use Rattle.anchored.specs.Graph.{Graph}
 use Rattle.anchored.specs.Followers.{follows, choice}
 use Rattle.anchored.specs.Session.{Plain, turn, rowOf}
-use Rattle.shells.specs.Input.{anchoredBy}
+use Rattle.pool.specs.Input.{anchoredBy}
 use Rattle.sheet.specs.Line.{Round, lineOf}
 use Rattle.sheet.specs.declared.line.Chosen.the-variants.{Vertex, Nobody}
 

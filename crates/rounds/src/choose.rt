@@ -5,7 +5,7 @@ ghost use Prim.Native.Nat.{_≤_, _<_};
 ghost use lib.ListN.{getD};
 ghost use lib.Dec.{ltb, eqb};
 ghost use Rattle.finite.specs.Moments.{old};
-ghost use Rattle.shells.specs.Input.{anchoredBy};
+ghost use Rattle.pool.specs.Input.{anchoredBy};
 ghost use Rattle.rounds.specs.Rounds.{choiceBy};
 
 // Whether v takes the place of the one chosen so far, n being nobody.

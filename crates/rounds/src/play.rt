@@ -5,12 +5,12 @@ ghost use Rattle.finite.specs.Moments.{old, final};
 ghost use Rattle.table.specs.Table.{vertices};
 ghost use Rattle.anchored.specs.Followers.{choice};
 ghost use Rattle.anchored.specs.Session.{turn};
-ghost use Rattle.shells.specs.Input.{graphOf, anchoredBy};
-ghost use Rattle.step.specs.Record.{Right, plainOf, Keeps};
+ghost use Rattle.pool.specs.Input.{graphOf, anchoredBy};
+ghost use Rattle.records.specs.Record.{Right, plainOf, Keeps};
 ghost use Rattle.sheet.specs.Written.{Written};
 ghost use Rattle.rounds.specs.Rounds.{shown, roundOn};
+use records::Record;
 use sheet::line::Chosen;
-use step::record::Record;
 
 // What a round leaves: the record, and the place behind its line.
 pub struct Played {
@@ -49,7 +49,7 @@ pub fn play(
     let level = columns.level;
     let layer = columns.layer;
     search::search(starts, links, &anchored, &level, &layer, x, &mut marks);
-    let stepped = step::step::step(starts, links, kept, x, round);
+    let stepped = step::step(starts, links, kept, x, round);
     let row = stepped.row;
     let chosen = Chosen::Vertex(x as u16);
     let end = sheet::line::put_line(out, at, round, chosen, &marks, n, row.redone);

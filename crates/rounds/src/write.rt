@@ -4,7 +4,7 @@ ghost use Prim.Native.Nat.{_+_, _*_, _≤_};
 ghost use lib.ListN.{length};
 ghost use Rattle.finite.specs.Moments.{old, final};
 ghost use Rattle.table.specs.Table.{vertices};
-ghost use Rattle.shells.specs.Input.{graphOf, anchoredBy, Admitted};
+ghost use Rattle.pool.specs.Input.{graphOf, anchoredBy, Admitted};
 ghost use Rattle.sheet.specs.Line.{sheetOf};
 ghost use Rattle.sheet.specs.Written.{Written};
 ghost use Rattle.rounds.specs.Rounds.{roundsOf};
@@ -24,7 +24,7 @@ pub fn write_rounds(
         let sheet = sheetOf (vertices (old starts)) (roundsOf (graphOf (old starts) (old links)) (anchoredBy (old given)) rounds) in
         ⌜ Written (old out) 0 sheet (final out) r ⌝ }
 {
-    let mut kept = step::begin::begin(starts, links, given);
+    let mut kept = records::begin::begin(starts, links, given);
     let mut at: usize = 0;
     let mut i: u16 = 0;
     while i < rounds {

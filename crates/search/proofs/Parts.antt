@@ -15,9 +15,9 @@ use Rattle.table.specs.Table.{vertices, neighbors}
 use Rattle.anchored.specs.Graph.{Graph}
 use Rattle.anchored.specs.Followers.{followers, candidates, reached, mark}
 use Rattle.anchored.proofs.Support.{supports}
-use Rattle.shells.specs.Input.{graphOf, anchoredBy}
-use Rattle.shells.specs.Arrays.{Holds}
-use Rattle.shells.specs.Sheet.{Leveled}
+use Rattle.pool.specs.Input.{graphOf, anchoredBy}
+use Rattle.pool.specs.Arrays.{Holds}
+use Rattle.pool.specs.Sheet.{Leveled}
 use Rattle.candidates.specs.Reaching.{Reached}
 use Rattle.candidates.proofs.Reaching.{queue-length}
 use Rattle.support.specs.Striking.{supportsOf, State, Settled}

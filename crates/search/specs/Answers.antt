@@ -8,8 +8,8 @@ use Rattle.table.specs.Guard.{refused, answer, past}
 use Rattle.table.specs.declared.Guard.{Guard}
 use Rattle.table.specs.declared.Guard.the-variants.{Passed}
 use Rattle.anchored.specs.Followers.{followers, reached, mark}
-use Rattle.shells.specs.Input.{graphOf, anchoredBy}
-use Rattle.level.specs.Marking.{markingOf}
+use Rattle.pool.specs.Input.{graphOf, anchoredBy}
+use Rattle.marking.specs.Marking.{markingOf}
 use Rattle.search.specs.declared.operation.Searched.{Searched}
 use Rattle.search.specs.declared.operation.Searched.the-variants.{Found, Refused}
 

@@ -6,9 +6,9 @@ ghost use Rattle.finite.specs.Moments.{old, final};
 ghost use Rattle.table.specs.Table.{vertices};
 ghost use Rattle.anchored.specs.Followers.{mark as markOf};
 ghost use Rattle.anchored.specs.Followers.{followers as followersOf, reached as reachedOf};
-ghost use Rattle.shells.specs.Input.{graphOf, anchoredBy};
-ghost use Rattle.shells.specs.Arrays.{Holds};
-ghost use Rattle.shells.specs.Sheet.{Sheet};
+ghost use Rattle.pool.specs.Input.{graphOf, anchoredBy};
+ghost use Rattle.pool.specs.Arrays.{Holds};
+ghost use Rattle.pool.specs.Sheet.{Sheet};
 
 // How many the search lifts, and how many it reaches.
 pub struct Found {

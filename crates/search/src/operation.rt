@@ -6,8 +6,8 @@ ghost use Rattle.finite.specs.Moments.{old, final};
 ghost use Rattle.table.specs.Table.{vertices};
 ghost use Rattle.table.specs.Guard.{held};
 ghost use Rattle.anchored.specs.Followers.{followers as followersIn, reached as reachedIn};
-ghost use Rattle.shells.specs.Input.{graphOf, anchoredBy, Admitted};
-ghost use Rattle.level.specs.SheetCheck.{Accepted};
+ghost use Rattle.pool.specs.Input.{graphOf, anchoredBy, Admitted};
+ghost use Rattle.level_sheet.specs.SheetCheck.{Accepted};
 ghost use Rattle.search.specs.Answers.{searchOf, followersOf, marksOf};
 ghost use Rattle.search.specs.declared.operation.Searched.the-variants.{Found};
 
@@ -29,7 +29,7 @@ fn test_search(
 ) -> table::Guard
     ensures { λ r. ⌜ r ≡ searchOf (old starts) (old links) (old anchored) (old levels) (old layers) x room ⌝ }
 {
-    let tested = level::vertex::test_marking(starts, links, anchored, levels, layers, x, room);
+    let tested = marking::test_marking(starts, links, anchored, levels, layers, x, room);
     match tested {
         table::Guard::Refused(refusal) => table::Guard::Refused(refusal),
         table::Guard::Passed => {
@@ -63,7 +63,7 @@ fn write_marks(
 {
     let mut mark = [0u8; 1024];
     let found = crate::find::search(starts, links, anchored, levels, layers, x, &mut mark);
-    level::lent::copy_bytes(&mark, marks);
+    pool::lent::copy_bytes(&mark, marks);
     Searched::Found(found.lifted, found.reached)
 }
 

@@ -25,14 +25,14 @@ use Rattle.anchored.specs.Session.{Plain, Row, statusOf, turn, rowOf, after}
 use Rattle.anchored.proofs.Anchor.{free-adding}
 use Rattle.anchored.proofs.Session.{status-free, turn-accepted, turn-refused, row-accepted, row-refused, after-more, after-prefix, after-beyond, followers-marks, level-lifted}
 use Rattle.anchored.proofs.Step.{kept-followers}
-use Rattle.shells.specs.Input.{graphOf, anchoredBy, admitOf, Admitted}
-use Rattle.shells.proofs.Laws.{checked-simple, admitted, admits}
-use Rattle.level.specs.SheetCheck.{Accepted}
-use Rattle.level.proofs.Laws.{accepts}
-use Rattle.level.proofs.Marking.{vertex-within, marking-vertex}
+use Rattle.pool.specs.Input.{graphOf, anchoredBy, admitOf, Admitted}
+use Rattle.pool.proofs.Laws.{checked-simple, admitted, admits}
+use Rattle.level_sheet.specs.SheetCheck.{Accepted}
+use Rattle.level_sheet.proofs.Laws.{accepts}
+use Rattle.marking.proofs.Marking.{vertex-within, marking-vertex}
 use Rattle.search.specs.declared.operation.Searched.the-variants.{Found}
 use Rattle.search.proofs.Answers.{search-free, followers-found}
-use Rattle.step.specs.Record.{sessionOf}
+use Rattle.records.specs.Record.{sessionOf}
 use Rattle.session.specs.Run.{Slices, sized, admitRun, runOf, rowAt, ended}
 use Rattle.session.specs.Claim.{upto, set, searched, marks, redone, shown, Fresh, Plainly, Accepts, Refuses, Claim}
 use Rattle.session.proofs.Serving.{admitted-bytes, run-lent}

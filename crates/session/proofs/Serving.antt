@@ -18,14 +18,15 @@ use Rattle.table.proofs.Guards.{both-passed, cleared}
 use Rattle.table.proofs.Laws.{went-on}
 use Rattle.anchored.specs.Followers.{followerCount}
 use Rattle.anchored.specs.Session.{Plain, after}
-use Rattle.shells.specs.Input.{graphOf, admitOf}
-use Rattle.shells.specs.Arrays.{Holds}
-use Rattle.shells.proofs.Laws.{admitted}
-use Rattle.level.proofs.Answers.{passed, each}
+use Rattle.pool.specs.Input.{graphOf, admitOf}
+use Rattle.pool.specs.Arrays.{Holds}
+use Rattle.pool.proofs.Laws.{admitted}
+use Rattle.pool.proofs.Lengths.{passed, each}
 use Rattle.stale.specs.Columns.{ColumnsOf}
-use Rattle.step.specs.Record.{rowAs, Turned, Keeps, sessionOf}
-use Rattle.step.specs.declared.record.Record.{Record}
-use Rattle.step.specs.declared.record.Stepped.{Stepped}
+use Rattle.records.specs.Record.{Keeps, sessionOf}
+use Rattle.step.specs.Turn.{rowAs, Turned}
+use Rattle.records.specs.declared.Record.{Record}
+use Rattle.step.specs.declared.Stepped.{Stepped}
 use Rattle.step.proofs.Steps.{stands-row, stands-more}
 use Rattle.session.specs.Run.{Slices, records, numbers, sized, admitRun, runOf, Ready, rowAt}
 

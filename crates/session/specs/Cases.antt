@@ -15,9 +15,9 @@ use Rattle.anchored.specs.Followers.{follows, followers, followerCount, firstSt
 use Rattle.anchored.specs.Sheet.{misplaced, tooHigh, tooLow, tooLate}
 use Rattle.anchored.specs.Step.{above, undisturbed, seesDisturbed, seesNew, recomputed}
 use Rattle.anchored.specs.Session.{statusOf, rowOf, turn, after}
-use Rattle.shells.specs.Input.{admitOf}
-use Rattle.level.specs.SheetCheck.{sheetOf, checkSheetOf}
-use Rattle.level.specs.Marking.{vertexOf, markingOf}
+use Rattle.pool.specs.Input.{admitOf}
+use Rattle.level_sheet.specs.SheetCheck.{sheetOf, checkSheetOf}
+use Rattle.marking.specs.Marking.{vertexOf, markingOf}
 use Rattle.search.specs.Answers.{searchOf, followersOf, marksOf}
 use Rattle.search.specs.declared.operation.Searched.the-variants.{Found}
 use Rattle.session.specs.Run.{admitRun, runOf, ended}

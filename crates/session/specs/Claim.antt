@@ -14,11 +14,11 @@ use Rattle.anchored.specs.Component.{component}
 use Rattle.anchored.specs.Followers.{adding, reached}
 use Rattle.anchored.specs.Step.{recomputed}
 use Rattle.anchored.specs.Session.{Row, statusOf}
-use Rattle.shells.specs.Input.{graphOf, anchoredBy, admitOf}
+use Rattle.pool.specs.Input.{graphOf, anchoredBy, admitOf}
 use Rattle.search.specs.Answers.{followersOf, marksOf}
 use Rattle.search.specs.declared.operation.Searched.{Searched}
 use Rattle.search.specs.declared.operation.Searched.the-variants.{Found}
-use Rattle.step.specs.Record.{sessionOf}
+use Rattle.records.specs.Record.{sessionOf}
 use Rattle.session.specs.Run.{Slices, sized, runOf, rowAt, ended}
 
 module _ (s l given requests : List ℕ) where

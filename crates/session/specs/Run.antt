@@ -15,8 +15,8 @@ use Rattle.anchored.specs.Core.{level, layer}
 use Rattle.anchored.specs.Component.{component}
 use Rattle.anchored.specs.Followers.{followerCount}
 use Rattle.anchored.specs.Session.{Row, rowOf}
-use Rattle.shells.specs.Input.{graphOf, admitOf, Admitted}
-use Rattle.step.specs.Record.{sessionOf}
+use Rattle.pool.specs.Input.{graphOf, admitOf, Admitted}
+use Rattle.records.specs.Record.{sessionOf}
 
 -- the lent slices: the record, and the three numbers of each request
 pub record Slices : Type 0 where

@@ -4,7 +4,7 @@ ghost use Prim.Native.Nat.{_≤_};
 ghost use lib.ListN.{length, getD};
 ghost use Rattle.finite.specs.Count.{tabulate};
 ghost use Rattle.finite.specs.Moments.{old, final};
-use step::record::Record;
+use records::Record;
 
 // Copies the sheet of a record out.
 pub fn copy_sheet(kept: Record, levels: &mut [u16], layers: &mut [u16], components: &mut [u16])
@@ -17,9 +17,9 @@ pub fn copy_sheet(kept: Record, levels: &mut [u16], layers: &mut [u16], componen
     let level = columns.level;
     let layer = columns.layer;
     let component = columns.component;
-    level::lent::copy(&level, levels);
-    level::lent::copy(&layer, layers);
-    level::lent::copy(&component, components);
+    pool::lent::copy(&level, levels);
+    pool::lent::copy(&layer, layers);
+    pool::lent::copy(&component, components);
 }
 
 // Copies its anchored bytes, follower counts and stamps out.
@@ -32,7 +32,7 @@ pub fn copy_rows(kept: Record, anchored: &mut [u8], followers: &mut [u16], stamp
     let bytes = kept.anchored;
     let counts = kept.followers;
     let stamp = kept.stamp;
-    level::lent::copy_bytes(&bytes, anchored);
-    level::lent::copy(&counts, followers);
-    level::lent::copy(&stamp, stamps);
+    pool::lent::copy_bytes(&bytes, anchored);
+    pool::lent::copy(&counts, followers);
+    pool::lent::copy(&stamp, stamps);
 }

@@ -9,12 +9,12 @@ ghost use Rattle.finite.specs.Search.{all};
 ghost use Rattle.finite.specs.Moments.{old, final};
 ghost use Rattle.table.specs.Table.{vertices};
 ghost use Rattle.table.specs.Guard.{answer, held};
-ghost use Rattle.shells.specs.Input.{Admitted};
-ghost use Rattle.step.specs.Record.{Keeps, sessionOf};
+ghost use Rattle.pool.specs.Input.{Admitted};
+ghost use Rattle.records.specs.Record.{Keeps, sessionOf};
 ghost use Rattle.session.specs.Run.{slices, admitRun, runOf, Ready, rowAt, ended};
 ghost use Rattle.session.specs.Claim.{Claim};
 ghost use Rattle.session.specs.declared.run.Ran.the-variants.{Served, Refused};
-use step::record::Record;
+use records::Record;
 
 // The answer of a session: its list is served, or a refusal.
 pub enum Ran {
@@ -43,10 +43,10 @@ fn serve(
     ensures lifted { λ _. ⌜ final lifted ≡ tabulate (λ i. rowAt (old starts) (old links) (old given) (old requests) i .lifted) (length (old requests)) ⌝ }
     ensures redone { λ _. ⌜ final redone ≡ tabulate (λ i. rowAt (old starts) (old links) (old given) (old requests) i .redone) (length (old requests)) ⌝ }
 {
-    let mut kept = step::begin::begin(starts, links, given);
+    let mut kept = records::begin::begin(starts, links, given);
     let mut i: usize = 0;
     while i < requests.len() {
-        let stepped = step::step::step(starts, links, kept, requests[i] as usize, i as u16 + 1);
+        let stepped = step::step(starts, links, kept, requests[i] as usize, i as u16 + 1);
         kept = stepped.kept;
         let row = stepped.row;
         status[i] = row.status;
@@ -97,17 +97,17 @@ fn admit(
         let fits = all (eqb (vertices (old starts))) (old records) && all (eqb count) (old numbers) in
         ⌜ r ≡ admitRun (old starts) (old links) (old given) count fits ⌝ }
 {
-    let admitted = shells::input::admit(starts, links, given);
+    let admitted = pool::input::admit(starts, links, given);
     match admitted {
         table::Guard::Refused(refusal) => table::Guard::Refused(refusal),
         table::Guard::Passed => {
             if 4096 < count {
                 return table::refused(11, 0);
             }
-            if !level::lent::all_are(records, starts.len() - 1) {
+            if !pool::lent::all_are(records, starts.len() - 1) {
                 return table::refused(12, 0);
             }
-            if level::lent::all_are(numbers, count) {
+            if pool::lent::all_are(numbers, count) {
                 return table::Guard::Passed;
             }
             table::refused(12, 0)

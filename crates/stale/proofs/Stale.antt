@@ -21,9 +21,9 @@ use Rattle.anchored.specs.Changed.{steady, changed}
 use Rattle.anchored.proofs.Core.{level-lt, level-anchored}
 use Rattle.anchored.proofs.Changed.{component-anchored, component-lt, recomputed-changed}
 use Rattle.table.specs.Table.{vertices, neighbors, SoundTable}
-use Rattle.shells.specs.Input.{graphOf}
-use Rattle.shells.specs.Arrays.{Holds}
-use Rattle.shells.proofs.Laws.{simple}
+use Rattle.pool.specs.Input.{graphOf}
+use Rattle.pool.specs.Arrays.{Holds}
+use Rattle.pool.proofs.Laws.{simple}
 use Rattle.stale.specs.Marks.{marked, Added, upTo, differs, carried, looksThrough, looks}
 use Rattle.stale.specs.Columns.{higherBy, aboveBy, ColumnsOf, Finds}
 use Rattle.stale.specs.declared.Columns.{Columns}

@@ -11,8 +11,8 @@ use Rattle.anchored.specs.Graph.{Graph}
 use Rattle.anchored.specs.Core.{level, layer}
 use Rattle.anchored.specs.Component.{component}
 use Rattle.anchored.specs.Step.{above, recomputed}
-use Rattle.shells.specs.Input.{graphOf}
-use Rattle.shells.specs.Arrays.{Holds}
+use Rattle.pool.specs.Input.{graphOf}
+use Rattle.pool.specs.Arrays.{Holds}
 use Rattle.stale.specs.Marks.{marked}
 use Rattle.stale.specs.declared.Columns.{Columns}
 

@@ -4,7 +4,7 @@ ghost use Prim.Native.Nat.{_≤_, _<_};
 ghost use lib.ListN.{length};
 ghost use Rattle.finite.specs.Moments.{old, final};
 ghost use Rattle.table.specs.Table.{vertices, SoundTable};
-ghost use Rattle.shells.specs.Arrays.{Holds};
+ghost use Rattle.pool.specs.Arrays.{Holds};
 ghost use Rattle.stale.specs.Marks.{Added, upTo, differs, carried, marking, looksThrough};
 ghost use Rattle.stale.specs.Marks.{marked as markedIn, looks as looksBy};
 ghost use Rattle.stale.specs.Columns.{aboveBy, Finds};
@@ -27,7 +27,7 @@ fn count_above(starts: &[u16], links: &[u16], level: &[u16; 1024], v: usize) -> 
     let mut count: usize = 0;
     let mut i: usize = 0;
     while i < part.len() {
-        count += shells::pair::is_higher(level, part[i] as usize, v) as usize;
+        count += pool::pair::is_higher(level, part[i] as usize, v) as usize;
         i += 1;
     }
     count
@@ -114,7 +114,7 @@ fn looks_through(
     if !is_marked(changed, component[v]) {
         return false;
     }
-    shells::pair::is_above(level, layer, v, u)
+    pool::pair::is_above(level, layer, v, u)
 }
 
 // Whether u looks into a component whose number is marked; an anchored vertex, which has no number, does not.

@@ -15,19 +15,20 @@ use Rattle.finite.proofs.Tests.{split, true-of, false-of, of-true, and-l, neqb}
 use Rattle.finite.proofs.Count.{set-reads, in-below, length-below, count-length, count-cong, count-below-zero, count-below-more}
 use Rattle.table.specs.Table.{vertices}
 use Rattle.anchored.specs.Graph.{Graph}
-use Rattle.anchored.specs.Followers.{adding, follows, followers, followerCount}
+use Rattle.anchored.specs.Followers.{adding, followers, followerCount}
 use Rattle.anchored.specs.Step.{recomputed}
 use Rattle.anchored.specs.Session.{Plain, statusOf, rowOf, turn, after}
 use Rattle.anchored.proofs.Step.{kept-followers}
 use Rattle.anchored.proofs.Session.{status-free, turn-accepted, turn-refused, row-accepted, after-more, renewed-fresh}
-use Rattle.shells.specs.Input.{graphOf, anchoredBy, Admitted}
-use Rattle.shells.specs.Arrays.{Holds}
-use Rattle.shells.proofs.Laws.{simple}
+use Rattle.pool.specs.Input.{graphOf, anchoredBy, Admitted}
+use Rattle.pool.specs.Arrays.{Holds}
+use Rattle.pool.proofs.Laws.{simple}
 use Rattle.stale.specs.Columns.{ColumnsOf}
 use Rattle.stale.specs.declared.Columns.{Columns}
-use Rattle.step.specs.Record.{Right, plainOf, Stands, rowAs, Turned}
+use Rattle.records.specs.Record.{Right, plainOf, Stands}
+use Rattle.step.specs.Turn.{rowAs, Turned}
 use Rattle.step.specs.Rows.{staleBy, Renewed, Redone}
-use Rattle.step.specs.declared.record.Record.{Record}
+use Rattle.records.specs.declared.Record.{Record}
 
 -- ---- bytes
 
@@ -48,13 +49,6 @@ admitted-set s l a x h b = record {
       (λ t. rw (true-of (eqb x v) t) (omega arith))
       (λ t. rw (false-of (eqb x v) t) (h .bytes v k)));
 }
-
--- bytes that read alike anchor alike, and are admitted alike
-anchored-same : (a b : List ℕ) → ((v : ℕ) → getD b v 0 ≡ getD a v 0) → anchoredBy b ≡ anchoredBy a
-anchored-same a b e = fun-ext (λ v. ap (λ z. eqb z 1) (e v))
-
-pub admitted-same : (s l a b : List ℕ) → ((v : ℕ) → getD b v 0 ≡ getD a v 0) → vertices s ≤ length b → Admitted s l a → Admitted s l b
-admitted-same s l a b e long h = record { table = h .table; long = long; bytes = λ v k. rw (e v) (h .bytes v k) }
 
 -- ---- rows
 
@@ -225,11 +219,6 @@ module _ {s l : List ℕ} {kept : Record} (right : Right s l kept) (x : ℕ) (bx
 
 -- ---- the session
 
--- a vertex has at most n followers
-pub followers-le : (G : Graph) (A : ℕ → Bool) (x : ℕ) → followers G A x ≤ G .size
-unfolding followers
-followers-le G A x = omega (arith, count-length (follows G A x) (below (G .size)), length-below (G .size))
-
 -- a stale row is not that of an anchored vertex: its count is that of its followers
 pub stale-count : (G : Graph) (a marks : List ℕ) (u : ℕ) → staleBy a marks u ≡ true → followerCount G (anchoredBy a) u ≡ followers G (anchoredBy a) u
 unfolding followerCount
@@ -246,12 +235,6 @@ unfolding turn
 turn-stamps G position x S v = let accepts = eqb (statusOf G (S .anchors) x) 0 in split accepts (λ t. rw (true-of accepts t)) (λ t. rw (false-of accepts t))
 
 module _ (s l : List ℕ) where
-  -- at the start: bytes that read as the given ones, and stamps 0
-  pub stands-start : (given requests : List ℕ) (kept : Record) → ((v : ℕ) → getD (kept .anchored) v 0 ≡ getD given v 0) → Holds (kept .stamp) (vertices s) (λ v. 0)
-      → Stands (vertices s) kept (after (graphOf s l) (anchoredBy given) requests 0)
-  unfolding after
-  stands-start given requests kept e zeros = record { anchors = anchored-same given (kept .anchored) e; stamps = zeros }
-
   module _ {kept : Record} {S : Plain} (h : Stands (vertices s) kept S) where
     abbrev own : Plain
     own = plainOf kept

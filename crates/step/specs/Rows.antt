@@ -7,13 +7,8 @@ use lib.ListN.{length, getD}
 use lib.Dec.{ltb}
 use Rattle.finite.specs.Count.{count, below}
 use Rattle.anchored.specs.Followers.{followers}
-use Rattle.shells.specs.Input.{graphOf, anchoredBy}
+use Rattle.pool.specs.Input.{graphOf, anchoredBy}
 use Rattle.stale.specs.Marks.{marked}
-
--- an array holds a list, with zeros after it
-pub record Copied (xs ys : List ℕ) : Type 0 where
-  pub long : length ys ≡ 1024
-  pub same : (v : ℕ) → getD ys v 0 ≡ getD xs v 0
 
 -- the row of u is stale: u is marked, and not anchored
 abbrev pub staleBy : List ℕ → List ℕ → ℕ → Bool

@@ -1,5 +1,150 @@
-// The record of a session: at the start, and after one more request.
-pub mod record; // the arrays that a session keeps
-pub mod afresh; // the sheet and a follower count, worked anew
-pub mod step; // one request
-pub mod begin; // the record at the start
+// The record of a session after one more request: exactly one turn of the plain session.
+ghost use mathlib.Core.Path.{_≡_};
+ghost use Prim.Native.Nat.{_≤_, _<_};
+ghost use lib.ListN.{length, getD};
+ghost use Rattle.finite.specs.Moments.{old, final};
+ghost use Rattle.table.specs.Table.{vertices};
+ghost use Rattle.pool.specs.Input.{graphOf, anchoredBy, Admitted};
+ghost use Rattle.stale.specs.Columns.{ColumnsOf};
+ghost use Rattle.records.specs.Record.{Right};
+ghost use Rattle.step.specs.Turn.{Turned};
+ghost use Rattle.step.specs.Rows.{Redone, staleBy};
+use records::Record;
+use stale::Columns;
+
+// The three numbers of a request.
+pub struct Row {
+    pub status: u16,
+    pub lifted: u16,
+    pub redone: u16,
+}
+
+// What a request leaves.
+pub struct Stepped {
+    pub kept: Record,
+    pub row: Row,
+}
+
+// Whether the row of u is stale: u is marked, and not anchored.
+fn is_stale(anchored: &[u8; 1024], marks: &[u8; 1024], u: usize) -> bool
+    requires { ⌜ u < 1024 ⌝ }
+    ensures { λ r. ⌜ r ≡ staleBy (old anchored) (old marks) u ⌝ }
+{
+    if anchored[u] == 1 {
+        return false;
+    }
+    marks[u] == 1
+}
+
+// The stale rows are counted afresh and stamped, and no other; how many they are.
+fn redo(
+    starts: &[u16],
+    links: &[u16],
+    anchored: &[u8; 1024],
+    columns: Columns,
+    marks: &[u8; 1024],
+    position: u16,
+    followers: &mut [u16; 1024],
+    stamp: &mut [u16; 1024],
+) -> usize
+    requires { ⌜ Admitted (now starts) (now links) (now anchored) ⌝ }
+    requires { ⌜ ColumnsOf (graphOf (now starts) (now links)) (anchoredBy (now anchored)) columns ⌝ }
+    requires { ⌜ vertices (now starts) ≤ length (now followers) ⌝ }
+    requires { ⌜ vertices (now starts) ≤ length (now stamp) ⌝ }
+    ensures { λ r.
+        let test = staleBy (old anchored) (old marks) in
+        ⌜ Redone (old starts) (old links) (old anchored) test position (old followers) (old stamp) (final followers) (final stamp) r (vertices (old starts)) ⌝ }
+{
+    let n = starts.len() - 1;
+    let level = columns.level;
+    let layer = columns.layer;
+    let mut redone: usize = 0;
+    let mut u: usize = 0;
+    while u < n {
+        if is_stale(anchored, marks, u) {
+            followers[u] = records::afresh::count_followers(
+                starts,
+                links,
+                anchored,
+                &level,
+                &layer,
+                u,
+            );
+            stamp[u] = position;
+            redone += 1;
+        }
+        u += 1;
+    }
+    redone
+}
+
+// x, not anchored, is anchored too.
+fn accept(starts: &[u16], links: &[u16], kept: Record, x: usize, position: u16) -> Stepped
+    requires { ⌜ Right (now starts) (now links) kept ⌝ }
+    requires { ⌜ x < vertices (now starts) ⌝ }
+    requires { ⌜ getD (kept .anchored) x 0 ≡ 0 ⌝ }
+    ensures { λ r. ⌜ Turned (old starts) (old links) position x kept r ⌝ }
+{
+    let mut anchored = kept.anchored;
+    anchored[x] = 1;
+    let columns = records::afresh::refresh(starts, links, &anchored);
+    let mut marks = [0u8; 1024];
+    stale::mark_stale(starts, links, kept.columns, columns, &mut marks);
+    let mut followers = kept.followers;
+    let mut stamp = kept.stamp;
+    let lifted = followers[x];
+    let redone = redo(
+        starts,
+        links,
+        &anchored,
+        columns,
+        &marks,
+        position,
+        &mut followers,
+        &mut stamp,
+    );
+    followers[x] = 65535;
+    stamp[x] = position;
+    Stepped {
+        kept: Record {
+            anchored,
+            columns,
+            followers,
+            stamp,
+        },
+        row: Row {
+            status: 0,
+            lifted,
+            redone: redone as u16,
+        },
+    }
+}
+
+// One request on a record that is right: 15 for no vertex, 16 for an anchored one, and else accepted.
+pub fn step(starts: &[u16], links: &[u16], kept: Record, x: usize, position: u16) -> Stepped
+    requires { ⌜ Right (now starts) (now links) kept ⌝ }
+    ensures { λ r. ⌜ Turned (old starts) (old links) position x kept r ⌝ }
+{
+    if starts.len() - 1 <= x {
+        return Stepped {
+            kept,
+            row: Row {
+                status: 15,
+                lifted: 0,
+                redone: 0,
+            },
+        };
+    }
+    let anchored = kept.anchored;
+    if anchored[x] == 1 {
+        return Stepped {
+            kept,
+            row: Row {
+                status: 16,
+                lifted: 0,
+                redone: 0,
+            },
+        };
+    }
+    accept(starts, links, kept, x, position)
+}

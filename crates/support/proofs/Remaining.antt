@@ -21,10 +21,10 @@ use Rattle.anchored.specs.Core.{level}
 use Rattle.anchored.specs.Followers.{adding, follows, followers, candidates, reached, mark}
 use Rattle.anchored.proofs.Candidates.{follower-candidate, candidate-free}
 use Rattle.anchored.proofs.Support.{supports, supports-mono, struck-out, settled}
-use Rattle.shells.specs.Input.{graphOf, anchoredBy}
-use Rattle.shells.specs.Arrays.{Holds}
-use Rattle.shells.specs.Sheet.{Leveled}
-use Rattle.shells.proofs.Laws.{simple}
+use Rattle.pool.specs.Input.{graphOf, anchoredBy}
+use Rattle.pool.specs.Arrays.{Holds}
+use Rattle.pool.specs.Sheet.{Leveled}
+use Rattle.pool.proofs.Laws.{simple}
 use Rattle.candidates.specs.Reaching.{alike}
 use Rattle.support.specs.Striking.{supportsOf, State, out, gone, lossOf, Settled}
 use Rattle.support.proofs.Striking.{out-length}

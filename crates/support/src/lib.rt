@@ -6,10 +6,10 @@ ghost use Rattle.finite.specs.Moments.{old, final};
 ghost use Rattle.finite.specs.Count.{count, In};
 ghost use Rattle.finite.specs.Search.{member};
 ghost use Rattle.table.specs.Table.{vertices, neighbors as neighborsOf, SoundTable};
-ghost use Rattle.shells.specs.Sheet.{Leveled};
+ghost use Rattle.pool.specs.Sheet.{Leveled};
 ghost use Rattle.candidates.specs.Reaching.{Queued};
 ghost use Rattle.support.specs.Striking.{supportsOf, marked, state, strikeOf, weakenOf, Weighed, Settled};
-use shells::pair::is_higher;
+use pool::pair::is_higher;
 
 // Counts the support of each candidate and strikes out those of too little; how many these are.
 pub fn weigh(

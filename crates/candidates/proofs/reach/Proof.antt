@@ -9,7 +9,7 @@ use Rattle.finite.specs.Count.{In}
 use Rattle.finite.proofs.Count.{in-at}
 use Rattle.table.specs.Table.{vertices}
 use Rattle.table.specs.Table.{neighbors as neighborsOf}
-use Rattle.shells.specs.Input.{graphOf, anchoredBy}
+use Rattle.pool.specs.Input.{graphOf, anchoredBy}
 use Rattle.candidates.specs.Reaching.{stepsOf, Queued}
 use Rattle.candidates.proofs.Reaching.{queue-length, queue-within, queue-grows, Reaching, reach-first, reach-next, reach-end}
 use Rattle.candidates.proofs.reach.Statement.{statement}

@@ -5,7 +5,7 @@ use Prim.Native.Nat.{ℕ, _-_, _≤_}
 use native.Mathlib.Omega.{arith}
 use lib.ListN.{length, getD, length-set, length-replicate}
 use Rattle.finite.proofs.Count.{zeros-at, count-below-zero}
-use Rattle.shells.specs.Arrays.{Holds}
+use Rattle.pool.specs.Arrays.{Holds}
 use Rattle.components.specs.Entries.{members}
 use Rattle.components.proofs.Entries.{members-few, members-more, members-same}
 use Rattle.components.proofs.count_members.Statement.{statement}

@@ -2,8 +2,8 @@
 use mathlib.Core.Path.{ap, _∙_}
 use Prim.Native.Nat.{_≤_}
 use Rattle.table.specs.Table.{vertices}
-use Rattle.shells.specs.Input.{graphOf, anchoredBy}
-use Rattle.shells.proofs.Laws.{simple}
+use Rattle.pool.specs.Input.{graphOf, anchoredBy}
+use Rattle.pool.proofs.Laws.{simple}
 use Rattle.table.specs.Guard.{front}
 use Rattle.components.proofs.Entries.{Defined, defined}
 use Rattle.components.proofs.write_list.Statement.{statement}

@@ -4,8 +4,8 @@ use Prim.Native.Nat.{ℕ, _-_, _≤_}
 use native.Mathlib.Omega.{arith}
 use lib.ListN.{length, length-set}
 use Rattle.table.specs.Table.{vertices}
-use Rattle.shells.specs.Arrays.{Holds}
-use Rattle.shells.proofs.Arrays.{holds-none, holds-more}
+use Rattle.pool.specs.Arrays.{Holds}
+use Rattle.pool.proofs.Arrays.{holds-none, holds-more}
 use Rattle.stale.specs.Columns.{aboveBy}
 use Rattle.stale.proofs.Stale.{above-few}
 use borrow.Author.Needs.{needs}

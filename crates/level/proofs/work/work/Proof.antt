@@ -5,14 +5,14 @@ use mathlib.Core.List.{[], _∷_}
 use lib.ListN.{length}
 use Rattle.table.specs.declared.Guard.the-variants.{Passed}
 use Rattle.table.proofs.Guards.{handed, cleared}
-use Rattle.level.specs.Answers.{workOf}
-use Rattle.level.proofs.Answers.{work-sound}
+use Rattle.pool.specs.Lengths.{slicesOf}
+use Rattle.pool.proofs.Lengths.{slices-sound}
 use borrow.Author.Needs.{needs}
 use Rattle.level.proofs.work.work.Statement.{statement}
 use Rattle.level.proofs.work.work.Tie as tie
 
 told : (c : tie.After-enum-told) → let args = c .before .before .before .before .before .before .before .before .before .before .args in
-    workOf (args .starts .now) (args .links .now) (args .anchored .now) (length (args .levels .now) ∷ length (args .layers .now) ∷ length (args .components .now) ∷ []) ≡ Passed
+    slicesOf (args .starts .now) (args .links .now) (args .anchored .now) (length (args .levels .now) ∷ length (args .layers .now) ∷ length (args .components .now) ∷ []) ≡ Passed
 told c = sym (c .before .before .admit-slices .ensures) ∙ c .enum-told .given .1
 
 abbrev called : tie.After-slice-known6 → tie.After-write-sheet
@@ -32,7 +32,7 @@ enum-told c = search needs
 
 write-sheet-requires : tie.Need-write-sheet-requires
 write-sheet-requires c κs =
-    let promised = work-sound _ _ _ _ (told (c .before .before .before)) in
+    let promised = slices-sound _ _ _ _ (told (c .before .before .before)) in
     (promised .0, (promised .1 _ (inl refl), (promised .1 _ (inr (inl refl)), promised .1 _ (inr (inr (inl refl))))))
 
 returns : tie.Need-returns

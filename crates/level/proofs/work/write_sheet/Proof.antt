@@ -2,7 +2,7 @@
 use Prim.Native.Nat.{_≤_}
 use native.Mathlib.Omega.{arith}
 use Rattle.table.specs.Table.{vertices}
-use Rattle.shells.proofs.Arrays.{copied}
+use Rattle.pool.proofs.Arrays.{copied}
 use Rattle.level.proofs.work.write_sheet.Statement.{statement}
 use Rattle.level.proofs.work.write_sheet.Tie as tie
 

@@ -1,5 +1,5 @@
 use mathlib.Core.Path.{sym, ap, _∙_, subst}
-use Rattle.level.specs.SheetCheck.{Tells}
+use Rattle.level_sheet.specs.SheetCheck.{Tells}
 use Rattle.table.proofs.Guards.{answer-as}
 use Rattle.numbers.specs.Numbers.{levelsAs}
 use Rattle.planner_c.proofs.Numbers.{number-is}

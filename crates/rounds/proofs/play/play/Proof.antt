@@ -3,7 +3,7 @@ use mathlib.Core.Path.{sym}
 use Prim.Native.Nat.{_<_}
 use native.Mathlib.Omega.{arith}
 use borrow.Author.Needs.{needs}
-use Rattle.shells.proofs.Sheet.{in-arrays}
+use Rattle.pool.proofs.Sheet.{in-arrays}
 use Rattle.table.specs.Table.{vertices}
 use Rattle.rounds.proofs.Playing.{chosen-low, chosen-free, written-some, written-none, keeps-some, keeps-none}
 use Rattle.rounds.proofs.play.play.Statement.{statement}

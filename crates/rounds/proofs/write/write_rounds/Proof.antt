@@ -4,7 +4,7 @@ use Prim.Native.Nat.{_-_, _≤_}
 use native.Mathlib.Omega.{arith}
 use borrow.Author.Needs.{needs}
 use Rattle.table.specs.Table.{vertices}
-use Rattle.shells.specs.Input.{graphOf, anchoredBy}
+use Rattle.pool.specs.Input.{graphOf, anchoredBy}
 use Rattle.sheet.specs.Line.{sheetOf}
 use Rattle.sheet.specs.Written.{Written}
 use Rattle.rounds.specs.Rounds.{roundsOf}

@@ -4,7 +4,7 @@ use Prim.Native.Nat.{_+_}
 use native.Mathlib.Omega.{arith}
 use Rattle.table.specs.Table.{vertices}
 use Rattle.anchored.specs.Followers.{followers}
-use Rattle.shells.specs.Input.{graphOf, anchoredBy}
+use Rattle.pool.specs.Input.{graphOf, anchoredBy}
 use Rattle.candidates.proofs.Reaching.{queue-start}
 use Rattle.search.proofs.Parts.{reached-is, found-marks, found-counts}
 use Rattle.search.proofs.find.search.Statement.{statement}

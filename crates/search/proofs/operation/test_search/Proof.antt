@@ -2,8 +2,8 @@
 use mathlib.Core.Path.{_≡_, sym, _∙_}
 use native.Mathlib.Omega.{arith}
 use Rattle.table.specs.declared.Guard.the-variants.{Passed}
-use Rattle.level.specs.Marking.{markingOf}
-use Rattle.level.proofs.Marking.{marking-sound}
+use Rattle.marking.specs.Marking.{markingOf}
+use Rattle.marking.proofs.Marking.{marking-sound}
 use Rattle.search.proofs.Answers.{search-anchored, search-free}
 use Rattle.table.proofs.Guards.{handed}
 use Rattle.search.specs.Answers.{searchOf}

@@ -2,8 +2,8 @@
 use mathlib.Core.Path.{ap₂}
 use native.Mathlib.Omega.{arith}
 use Rattle.search.specs.declared.operation.Searched.the-variants.{Found}
-use Rattle.shells.proofs.Arrays.{copied}
-use Rattle.level.proofs.Sheets.{accepted-sheet}
+use Rattle.pool.proofs.Arrays.{copied}
+use Rattle.level_sheet.proofs.Sheets.{accepted-sheet}
 use Rattle.search.proofs.operation.write_marks.Statement.{statement}
 use Rattle.search.proofs.operation.write_marks.Tie as tie
 

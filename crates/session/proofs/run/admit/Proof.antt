@@ -3,8 +3,8 @@ use mathlib.Core.Path.{_≡_, sym, _∙_}
 use mathlib.Core.Bool.{false, true}
 use borrow.Author.Tests.{not-true, not-false}
 use Rattle.table.specs.declared.Guard.the-variants.{Passed}
-use Rattle.shells.specs.Input.{admitOf}
-use Rattle.shells.proofs.Laws.{admitted}
+use Rattle.pool.specs.Input.{admitOf}
+use Rattle.pool.proofs.Laws.{admitted}
 use Rattle.session.proofs.Serving.{run-many, run-lent}
 use Rattle.table.proofs.Guards.{handed}
 use Rattle.session.specs.Run.{admitRun}

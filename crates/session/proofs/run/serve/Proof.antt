@@ -3,7 +3,7 @@ use mathlib.Core.Path.{_≡_, subst}
 use Prim.Native.Nat.{_-_, _≤_}
 use native.Mathlib.Omega.{arith}
 use lib.ListN.{length}
-use Rattle.step.specs.Record.{Keeps, sessionOf}
+use Rattle.records.specs.Record.{Keeps, sessionOf}
 use Rattle.session.proofs.Serving.{Serving, serving-none, serving-more, filled-all}
 use Rattle.session.proofs.run.serve.Statement.{statement}
 use Rattle.session.proofs.run.serve.Tie as tie

@@ -1,0 +1,3 @@
+pub mod SheetCheck
+pub mod Faults
+pub mod Cases

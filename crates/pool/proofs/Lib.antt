@@ -1,0 +1,4 @@
+pub mod Laws
+pub mod Lengths
+pub mod Arrays
+pub mod Sheet

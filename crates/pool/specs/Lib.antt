@@ -1,0 +1,4 @@
+pub mod Input
+pub mod Lengths
+pub mod Arrays
+pub mod Sheet

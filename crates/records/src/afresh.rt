@@ -1,0 +1,61 @@
+// Worked afresh: the columns of a table with anchored vertices, and the follower count of a row.
+ghost use mathlib.Core.Path.{_≡_};
+ghost use Prim.Native.Nat.{_<_};
+ghost use Rattle.finite.specs.Moments.{old};
+ghost use Rattle.table.specs.Table.{vertices};
+ghost use Rattle.anchored.specs.Core.{level as levelOf};
+ghost use Rattle.anchored.specs.Core.{layer as layerOf};
+ghost use Rattle.anchored.specs.Followers.{followerCount};
+ghost use Rattle.pool.specs.Input.{graphOf, anchoredBy, Admitted};
+ghost use Rattle.pool.specs.Arrays.{Holds};
+ghost use Rattle.stale.specs.Columns.{ColumnsOf};
+use stale::Columns;
+
+// Levels, layers, components and the numbers above.
+pub fn refresh(starts: &[u16], links: &[u16], anchored: &[u8; 1024]) -> Columns
+    requires { ⌜ Admitted (now starts) (now links) (now anchored) ⌝ }
+    ensures { λ r. ⌜ ColumnsOf (graphOf (old starts) (old links)) (anchoredBy (old anchored)) r ⌝ }
+{
+    let mut level = [0u16; 1024];
+    let mut layer = [0u16; 1024];
+    let mut component = [0u16; 1024];
+    level::work::fill(
+        starts,
+        links,
+        anchored,
+        &mut level,
+        &mut layer,
+        &mut component,
+    );
+    let mut above = [0u16; 1024];
+    stale::fill_above(starts, links, &level, &mut above);
+    Columns {
+        level,
+        layer,
+        component,
+        above,
+    }
+}
+
+// The follower count of u, by the search from u; 65,535 for an anchored vertex.
+pub fn count_followers(
+    starts: &[u16],
+    links: &[u16],
+    anchored: &[u8; 1024],
+    level: &[u16; 1024],
+    layer: &[u16; 1024],
+    u: usize,
+) -> u16
+    requires { ⌜ Admitted (now starts) (now links) (now anchored) ⌝ }
+    requires { ⌜ Holds (now level) (vertices (now starts)) (levelOf (graphOf (now starts) (now links)) (anchoredBy (now anchored))) ⌝ }
+    requires { ⌜ Holds (now layer) (vertices (now starts)) (layerOf (graphOf (now starts) (now links)) (anchoredBy (now anchored))) ⌝ }
+    requires { ⌜ u < vertices (now starts) ⌝ }
+    ensures { λ r. ⌜ r ≡ followerCount (graphOf (old starts) (old links)) (anchoredBy (old anchored)) u ⌝ }
+{
+    if anchored[u] == 1 {
+        return 65535;
+    }
+    let mut marks = [0u8; 1024];
+    let found = search::search(starts, links, anchored, level, layer, u, &mut marks);
+    found.lifted as u16
+}
