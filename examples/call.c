@@ -26,6 +26,14 @@ static void numbers(const char *name, const uint16_t *list, size_t count)
     printf("\n");
 }
 
+static void signed_numbers(const char *name, const int16_t *list, size_t count)
+{
+    printf("  %s", name);
+    for (size_t i = 0; i < count; i++)
+        printf(" %d", list[i]);
+    printf("\n");
+}
+
 static void bytes(const char *name, const uint8_t *list, size_t count)
 {
     printf("  %s", name);
@@ -61,18 +69,19 @@ static void sheet(void)
     tell("check_sheet with a layer of 9", planner_check_sheet(starts, 5, links, 6, retained, 4, levels, 4, layers, 4));
 }
 
-/* Names 3 and 9, of which 9 is no rider. */
+/* Names 3 and 9, of which 9 is no rider: 1 and 2 climb a level, and would give it up were they retained themselves. */
 static void session(void)
 {
     static const uint16_t names[] = {3, 9};
     uint8_t anchored[4] = {0};
-    uint16_t levels[4] = {0}, layers[4] = {0}, components[4] = {0}, followers[4] = {0}, stamps[4] = {0};
+    uint16_t levels[4] = {0}, layers[4] = {0}, components[4] = {0}, stamps[4] = {0};
+    int16_t yields[4] = {0};
     uint16_t status[2] = {0}, lifted[2] = {0}, redone[2] = {0};
     tell("run", planner_run(starts, 5, links, 6, retained, 4, names, 2, anchored, 4, levels, 4, layers, 4, components, 4,
-                            followers, 4, stamps, 4, status, 2, lifted, 2, redone, 2));
+                            yields, 4, stamps, 4, status, 2, lifted, 2, redone, 2));
     bytes("anchored", anchored, 4);
     numbers("levels", levels, 4);
-    numbers("followers", followers, 4);
+    signed_numbers("yields", yields, 4);
     numbers("stamps", stamps, 4);
     numbers("status", status, 2);
     numbers("lifted", lifted, 2);

@@ -35,9 +35,12 @@
  *   component (patch)    a maximal connected set of vertices, not anchored, of one level; its number is its lowest vertex
  *   level sheet          the levels and the layers of all vertices
  *   follower (lifted)    of x: a vertex, neither x nor anchored, whose level is greater with x anchored too; always by one
+ *   bare level           of a vertex: its level with nobody anchored
+ *   climb                of a vertex not anchored: its level less its bare level, which is 0 or more
+ *   net yield            of a vertex not anchored: how many followers it has, less its climb; from -1,022 to 1,023
  *
- * An anchored vertex has level 65,535, layer 0 and component 65,535. Pairs (level, layer) are compared level first, and an anchored vertex
- * stands above all of them.
+ * An anchored vertex has level 65,535, layer 0, component 65,535 and net yield -32,768. Pairs (level, layer) are compared level first, and
+ * an anchored vertex stands above all of them.
  *
  *
  * Refusals
@@ -167,7 +170,7 @@ planner_answer planner_check_sheet(
  *   x               a vertex that is not anchored
  *   marks           filled, n bytes: 2 for a follower of x, 1 for another vertex that an upstair walk reaches, 0 for all others and for x
  *
- * Accepted: first is how many followers x has (its yield), second how many vertices upstair walks reach, followers included.
+ * Accepted: first is how many followers x has, second how many vertices upstair walks reach, followers included.
  * Refused: 1 to 8, 9, 10, 12, 13, 14, 19, 20, 21, 15, 16.
  */
 planner_answer planner_followers(
@@ -192,8 +195,9 @@ planner_answer planner_collapse(
     const uint16_t *levels, size_t levels_len, const uint16_t *layers, size_t layers_len, size_t x, uint8_t *marks, size_t marks_len);
 
 /*
- * A session: anchors the requested vertices one after the other, each on what the one before left, and keeps every vertex's follower count
- * right by working out anew exactly those that the step may have changed.
+ * A session: anchors the requested vertices one after the other, each on what the one before left, and keeps every vertex's net yield right
+ * by working out anew exactly those that the step may have changed. The sum of the climbs of all vertices not anchored grows by the net
+ * yields of the vertices that it anchors, each as it was just before.
  *
  *   starts, links  the table
  *   given          n bytes: who is anchored at the start
@@ -202,14 +206,15 @@ planner_answer planner_collapse(
  *   levels         filled, n numbers: the levels at the end
  *   layers         filled, n numbers: the layers at the end
  *   components     filled, n numbers: the components at the end
- *   followers      filled, n numbers: how many followers each vertex has at the end (its yield), 65,535 for an anchored one
- *   stamps         filled, n numbers: the position, from 1, of the last request that anchored the vertex or had its follower count worked
- *                  out anew; 0 if none did
+ *   yields         filled, n numbers: the net yield of each vertex at the end, its followers less what it has already climbed above its
+ *                  level with nobody anchored; -32,768 for an anchored one
+ *   stamps         filled, n numbers: the position, from 1, of the last request that anchored the vertex or had its net yield worked out
+ *                  anew; 0 if none did
  *   status         filled, a number for each request: 0 if it was done; 15 if it names no vertex, 16 if that vertex was anchored already.
  *                  A request with 15 or 16 changes nothing, and the session goes on
  *   lifted         filled, a number for each request: how many vertices it lifted; 0 if its status is not 0
- *   redone         filled, a number for each request: of how many vertices the follower count was worked out anew after it, the newly
- *                  anchored one not counted; 0 if its status is not 0
+ *   redone         filled, a number for each request: of how many vertices the net yield was worked out anew after it, the newly anchored
+ *                  one not counted; 0 if its status is not 0
  *
  * Accepted: states no value.
  * Refused: 1 to 8, 9, 10, 11, 12; the bytes of 9 and 10 are given.
@@ -217,7 +222,7 @@ planner_answer planner_collapse(
 planner_answer planner_run(
     const uint16_t *starts, size_t starts_len, const uint16_t *links, size_t links_len, const uint8_t *given, size_t given_len,
     const uint16_t *requests, size_t requests_len, uint8_t *anchored, size_t anchored_len, uint16_t *levels, size_t levels_len,
-    uint16_t *layers, size_t layers_len, uint16_t *components, size_t components_len, uint16_t *followers, size_t followers_len,
+    uint16_t *layers, size_t layers_len, uint16_t *components, size_t components_len, int16_t *yields, size_t yields_len,
     uint16_t *stamps, size_t stamps_len, uint16_t *status, size_t status_len, uint16_t *lifted, size_t lifted_len,
     uint16_t *redone, size_t redone_len);
 

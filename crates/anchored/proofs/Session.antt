@@ -7,6 +7,7 @@ use mathlib.Core.Bool.{Bool, true, false, not, cond, _||_, or-false, or-assoc}
 use mathlib.Core.List.{List}
 use lib.ListN.{length, take, getD}
 use lib.Seq.{getD-take, take-length}
+use lib.IntN.{ℤ}
 use lib.Dec.{T, ltb, eqb, T-not, eqb→eq, ltb→lt, nltb→le}
 use native.Mathlib.Nat.{eq-or-lt-of-le}
 use native.Mathlib.Numerals.{add-one}
@@ -22,11 +23,12 @@ use Rattle.anchored.specs.Graph.{Graph, Simple}
 use Rattle.anchored.specs.Core.{level, layer}
 use Rattle.anchored.specs.Component.{component}
 use Rattle.anchored.specs.Followers.{adding, follows, followers, followerCount, candidates, reached, mark}
+use Rattle.anchored.specs.Yield.{least, net, netYield}
 use Rattle.anchored.specs.Step.{recomputed}
 use Rattle.anchored.specs.Session.{Plain, statusOf, rowOf, turn, after}
 use Rattle.anchored.proofs.Core.{level-anchored}
 use Rattle.anchored.proofs.Anchor.{free-of, other-of, free-adding, level-rises, level-by-one}
-use Rattle.anchored.proofs.Step.{kept-followers, kept-reached}
+use Rattle.anchored.proofs.Step.{kept-followers, kept-net, kept-reached}
 
 -- ---- one request
 
@@ -156,19 +158,20 @@ level-lifted G L A x v b n = rw (mark-two G A x v) (split (A v)
 
 -- ---- a session that keeps the rows it need not recompute
 
--- what it keeps: the anchors, and for each vertex its level, layer, component, the two counts of its row, and its stamp
+-- what it keeps: the anchors, and for each vertex its level, layer, component, the counts and the net yield of its row, and its stamp
 pub record Kept : Type 0 where
   pub anchors : ℕ → Bool
   pub levels : ℕ → ℕ
   pub layers : ℕ → ℕ
   pub components : ℕ → ℕ
   pub counts : ℕ → ℕ
+  pub nets : ℕ → ℤ
   pub reaches : ℕ → ℕ
   pub stamps : ℕ → ℕ
 
--- a number of a row: 65,535 for an anchored vertex
-abbrev pub rowNumber : (ℕ → Bool) → (ℕ → ℕ) → ℕ → ℕ
-rowNumber A number v = cond (A v) 65535 (number v)
+-- a number of a row: a fixed one for an anchored vertex
+abbrev pub rowNumber : {X : Type 0} → X → (ℕ → Bool) → (ℕ → X) → ℕ → X
+rowNumber top A number v = cond (A v) top (number v)
 
 module _ (G : Graph) where
   -- everything as defined at the anchors of the plain session, and its stamps
@@ -179,13 +182,14 @@ module _ (G : Graph) where
     layers = layer G A;
     components = component G A;
     counts = followerCount G A;
-    reaches = rowNumber A (reached G A);
+    nets = netYield G A;
+    reaches = rowNumber 65535 A (reached G A);
     stamps = S .stamps;
   }
 
-  -- a number of a row after x is accepted: 65,535 for x, worked out anew where recomputed, else kept
-  abbrev pub renewed : (ℕ → Bool) → ℕ → (ℕ → ℕ) → (ℕ → ℕ) → ℕ → ℕ
-  renewed A x anew old v = cond (eqb x v) 65535 (cond (recomputed G A (adding A x) v) (anew v) (old v))
+  -- a number of a row after x is accepted: the fixed one for x, worked out anew where recomputed, else kept
+  abbrev pub renewed : {X : Type 0} → X → (ℕ → Bool) → ℕ → (ℕ → X) → (ℕ → X) → ℕ → X
+  renewed top A x anew old v = cond (eqb x v) top (cond (recomputed G A (adding A x) v) (anew v) (old v))
 
   -- what request x leaves when it is accepted
   unfoldable pub keepAccepted : ℕ → ℕ → Kept → Kept
@@ -194,8 +198,9 @@ module _ (G : Graph) where
     levels = λ v. cond (eqb x v) 65535 (K .levels v + bit (eqb (mark G A x v) 2));
     layers = layer G (adding A x);
     components = component G (adding A x);
-    counts = renewed A x (followers G (adding A x)) (K .counts);
-    reaches = renewed A x (reached G (adding A x)) (K .reaches);
+    counts = renewed 65535 A x (followers G (adding A x)) (K .counts);
+    nets = renewed least A x (net G (adding A x)) (K .nets);
+    reaches = renewed 65535 A x (reached G (adding A x)) (K .reaches);
     stamps = λ v. cond (eqb x v || recomputed G A (adding A x) v) position (K .stamps v);
   }
 
@@ -214,13 +219,14 @@ pub record Agrees (G : Graph) (K J : Kept) : Type 0 where
   pub layers : (v : ℕ) → v < G .size → K .layers v ≡ J .layers v
   pub components : (v : ℕ) → v < G .size → K .components v ≡ J .components v
   pub counts : (v : ℕ) → v < G .size → K .counts v ≡ J .counts v
+  pub nets : (v : ℕ) → v < G .size → K .nets v ≡ J .nets v
   pub reaches : (v : ℕ) → v < G .size → K .reaches v ≡ J .reaches v
   pub stamps : (v : ℕ) → v < G .size → K .stamps v ≡ J .stamps v
 
-module _ (G : Graph) (A : ℕ → Bool) (x : ℕ) where
+module _ {X : Type 0} (top : X) (G : Graph) (A : ℕ → Bool) (x : ℕ) where
   -- where the rows that are not recomputed keep their number, a renewed number is the fresh one
-  pub renewed-fresh : (number : (ℕ → Bool) → ℕ → ℕ) (v : ℕ) → (T (not (adding A x v)) → T (not (recomputed G A (adding A x) v)) → number A v ≡ number (adding A x) v)
-      → renewed G A x (number (adding A x)) (rowNumber A (number A)) v ≡ rowNumber (adding A x) (number (adding A x)) v
+  pub renewed-fresh : (number : (ℕ → Bool) → ℕ → X) (v : ℕ) → (T (not (adding A x v)) → T (not (recomputed G A (adding A x) v)) → number A v ≡ number (adding A x) v)
+      → renewed G top A x (number (adding A x)) (rowNumber top A (number A)) v ≡ rowNumber top (adding A x) (number (adding A x)) v
   unfolding recomputed
   renewed-fresh number v same = split (adding A x v)
       (λ t. rw (true-of (adding A x v) t) (split (eqb x v)
@@ -239,7 +245,7 @@ module _ (G : Graph) (L : Simple G) where
       (λ e. rw (false-of (eqb x v) e) (sym (level-lifted G L A x v b (λ q. neqb x v e (sym q)))))
 
   accepted-agrees : (position x : ℕ) (K : Kept) (S : Plain) → Agrees G K (fresh G S) → statusOf G (S .anchors) x ≡ 0 → Agrees G (keepAccepted G position x K) (fresh G (turn G position x S))
-  unfolding keepAccepted followerCount
+  unfolding keepAccepted followerCount netYield
   accepted-agrees position x K S H e =
       let same : K .anchors ≡ S .anchors = H .anchors in
       let A = S .anchors in
@@ -248,8 +254,9 @@ module _ (G : Graph) (L : Simple G) where
         levels = λ v b. rw (same, H .levels v b) (lifted-fresh A x v b);
         layers = λ v b. rw same;
         components = λ v b. rw same;
-        counts = λ v b. rw (same, H .counts v b) (renewed-fresh G A x (followers G) v (λ t r. kept-followers G L A x v b t r));
-        reaches = λ v b. rw (same, H .reaches v b) (renewed-fresh G A x (reached G) v (λ t r. kept-reached G L A x v b t r));
+        counts = λ v b. rw (same, H .counts v b) (renewed-fresh 65535 G A x (followers G) v (λ t r. kept-followers G L A x v b t r));
+        nets = λ v b. rw (same, H .nets v b) (renewed-fresh least G A x (net G) v (λ t r. kept-net G L A x v b t r));
+        reaches = λ v b. rw (same, H .reaches v b) (renewed-fresh 65535 G A x (reached G) v (λ t r. kept-reached G L A x v b t r));
         stamps = λ v b. rw (same, H .stamps v b);
       }
 
@@ -270,6 +277,7 @@ module _ (G : Graph) (L : Simple G) where
     layers = λ v b. refl;
     components = λ v b. refl;
     counts = λ v b. refl;
+    nets = λ v b. refl;
     reaches = λ v b. refl;
     stamps = λ v b. refl;
   }
@@ -281,12 +289,13 @@ module _ (G : Graph) (L : Simple G) where
 abbrev pub Accepted : Graph → (ℕ → Bool) → List ℕ → Type 0
 Accepted G A xs = (i : ℕ) → i < length xs → statusOf G (after G A xs i .anchors) (getD xs i 0) ≡ 0
 
--- the same level, layer, component and counts at v
+-- the same level, layer, component, counts and net yield at v
 pub record SameAt (G : Graph) (B C : ℕ → Bool) (v : ℕ) : Type 0 where
   pub levels : level G B v ≡ level G C v
   pub layers : layer G B v ≡ layer G C v
   pub components : component G B v ≡ component G C v
   pub counts : followerCount G B v ≡ followerCount G C v
+  pub nets : netYield G B v ≡ netYield G C v
   pub reaches : reached G B v ≡ reached G C v
 
 module _ (G : Graph) (A : ℕ → Bool) where
@@ -317,5 +326,6 @@ module _ (G : Graph) (A : ℕ → Bool) where
     layers = ap (λ B. layer G B v) q;
     components = ap (λ B. component G B v) q;
     counts = ap (λ B. followerCount G B v) q;
+    nets = ap (λ B. netYield G B v) q;
     reaches = ap (λ B. reached G B v) q;
   }

@@ -1,8 +1,9 @@
 -- A step from the anchors A to A and x: an undisturbed component is alike before and after, so a row that is not recomputed keeps
 -- its followers and its candidates. Assumes nothing.
-use Prim.Native.Nat.{ℕ, suc, _<_}
-use mathlib.Core.Path.{_≡_, refl, sym, _∙_, subst}
+use Prim.Native.Nat.{ℕ, suc, _-_, _<_}
+use mathlib.Core.Path.{_≡_, refl, sym, ap₂, _∙_, subst}
 use mathlib.Core.Bool.{Bool, not, _&&_, _||_, Bool·beq}
+use lib.IntN.{pos, _-ℤ_}
 use lib.Dec.{T, eqb, leb→le, le→leb, T-not, not-T, eqb→eq}
 use native.Mathlib.Omega.{arith}
 use native.Mathlib.Nat.{le-trans}
@@ -15,7 +16,8 @@ use Rattle.anchored.specs.Graph.{Graph, Simple}
 use Rattle.anchored.specs.Core.{level, greater, higher}
 use Rattle.anchored.specs.Component.{Joined, stay, hop, component, together}
 use Rattle.anchored.specs.Followers.{adding, follows, followers, firstStep, reached}
-use Rattle.anchored.specs.Step.{above, undisturbed, seesDisturbed, seesNew, recomputed}
+use Rattle.anchored.specs.Yield.{bareLevel, climb, net}
+use Rattle.anchored.specs.Step.{above, undisturbed, seesDisturbed, seesNew, moved, recomputed}
 use Rattle.anchored.proofs.Component.{joined-level, joined-lt, joined-free, component-iff}
 use Rattle.anchored.proofs.Anchor.{free-of, level-rises}
 use Rattle.anchored.proofs.Reuse.{Alike, Sees, Untouched, flip}
@@ -100,17 +102,17 @@ module _ (G : Graph) (L : Simple G) (A : ℕ → Bool) (x u : ℕ) (bu : u < G .
   unfolding recomputed seesDisturbed firstStep
   steps-before f t = split (undisturbed G A A′ f) (λ q. q) (λ q.
       let i = member-e f (G .neighbors u) (and-r (not (A f)) _ (and-l (not (A f) && member f (G .neighbors u)) _ t)) in
-      absurd (T-not (recomputed G A A′ u) kept (and-i (not (A′ u)) _ au (or-l (seesDisturbed G A A′ u) _
+      absurd (T-not (recomputed G A A′ u) kept (and-i (not (A′ u)) _ au (or-l (seesDisturbed G A A′ u || seesNew G A A′ u) _ (or-l (seesDisturbed G A A′ u) _
       (any-i (λ z. not (A z) && greater G A z u && not (undisturbed G A A′ z)) (G .neighbors u) f i
-      (and-i (not (A f) && greater G A f u) _ (and-i (not (A f)) _ (and-l (not (A f)) _ (and-l (not (A f) && member f (G .neighbors u)) _ t)) (and-r (not (A f) && member f (G .neighbors u)) _ t)) q))))))
+      (and-i (not (A f) && greater G A f u) _ (and-i (not (A f)) _ (and-l (not (A f)) _ (and-l (not (A f) && member f (G .neighbors u)) _ t)) (and-r (not (A f) && member f (G .neighbors u)) _ t)) q)))))))
 
   steps-after : (f : ℕ) → T (firstStep G A′ u f) → T (undisturbed G A A′ f)
   unfolding recomputed seesNew firstStep
   steps-after f t = split (undisturbed G A A′ f) (λ q. q) (λ q.
       let i = member-e f (G .neighbors u) (and-r (not (A′ f)) _ (and-l (not (A′ f) && member f (G .neighbors u)) _ t)) in
-      absurd (T-not (recomputed G A A′ u) kept (and-i (not (A′ u)) _ au (or-r (seesDisturbed G A A′ u) _
+      absurd (T-not (recomputed G A A′ u) kept (and-i (not (A′ u)) _ au (or-l (seesDisturbed G A A′ u || seesNew G A A′ u) _ (or-r (seesDisturbed G A A′ u) _
       (any-i (λ z. not (A′ z) && greater G A′ z u && not (undisturbed G A A′ z)) (G .neighbors u) f i
-      (and-i (not (A′ f) && greater G A′ f u) _ (and-i (not (A′ f)) _ (and-l (not (A′ f)) _ (and-l (not (A′ f) && member f (G .neighbors u)) _ t)) (and-r (not (A′ f) && member f (G .neighbors u)) _ t)) q))))))
+      (and-i (not (A′ f) && greater G A′ f u) _ (and-i (not (A′ f)) _ (and-l (not (A′ f)) _ (and-l (not (A′ f) && member f (G .neighbors u)) _ t)) (and-r (not (A′ f) && member f (G .neighbors u)) _ t)) q)))))))
 
   -- nobody falls, so who was above a level stays so; in an undisturbed component no neighbor has risen above it
   higher-rises : (k p : ℕ) → p < G .size → T (higher G A k p) → T (higher G A′ k p)
@@ -149,3 +151,14 @@ module _ (G : Graph) (L : Simple G) (A : ℕ → Bool) (x u : ℕ) (bu : u < G .
 
   pub kept-reached : reached G A u ≡ reached G A′ u
   kept-reached = reuse.reached-same G G L L refl A A′ u bu (free-of A x u au) au there back
+
+  -- its level is the one before
+  pub kept-level : level G A u ≡ level G A′ u
+  unfolding recomputed moved
+  kept-level = split (eqb (level G A u) (level G A′ u)) (eqb→eq (level G A u) (level G A′ u)) (λ q.
+      absurd (T-not (recomputed G A A′ u) kept (and-i (not (A′ u)) _ au (or-r (seesDisturbed G A A′ u || seesNew G A A′ u) _ q))))
+
+  -- so its net yield is
+  pub kept-net : net G A u ≡ net G A′ u
+  unfolding net climb
+  kept-net = ap₂ (λ (f k : ℕ). pos f -ℤ pos (k - bareLevel G u)) kept-followers kept-level

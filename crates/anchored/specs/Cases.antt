@@ -4,7 +4,8 @@ use mathlib.Core.Bool.{Bool, true, false}
 use mathlib.Core.List.{List, [], _∷_}
 use Prim.Native.Nat.{ℕ}
 use lib.ListN.{length, getD}
-use Rattle.finite.specs.Count.{bit, tabulate, below, count}
+use lib.IntN.{ℤ, pos, negsuc}
+use Rattle.finite.specs.Count.{bit, tabulate, below, count, sum}
 use Rattle.finite.specs.Search.{any, all, member, firstFrom, first, largest}
 use Rattle.finite.specs.Falling.{select, falling}
 use Rattle.finite.specs.Sets.{keep, having, rounds, grow}
@@ -12,11 +13,12 @@ use Rattle.finite.specs.Pairs.{pairLe}
 use Rattle.anchored.specs.Graph.{Graph}
 use Rattle.anchored.specs.Core.{batch, core, level, shell, layer, greater, higher}
 use Rattle.anchored.specs.Component.{joins, around, component, together, heads, componentSize, ranked}
-use Rattle.anchored.specs.Followers.{follows, followers, followerCount, firstStep, onward, candidates, reached, mark, best, choice}
+use Rattle.anchored.specs.Followers.{follows, followers, followerCount, firstStep, onward, candidates, reached, mark}
+use Rattle.anchored.specs.Yield.{bareLevel, climb, net, netYield, climbed, best, choice}
 use Rattle.anchored.specs.Collapse.{falls, fallMark, exposed}
 use Rattle.anchored.specs.Sheet.{isDefined, misplaced, tooHigh, tooLow, tooLate, fits, isLocal}
-use Rattle.anchored.specs.Step.{above, undisturbed, seesDisturbed, seesNew, recomputed}
-use Rattle.anchored.specs.Session.{Row, statusOf, rowOf, turn, after}
+use Rattle.anchored.specs.Step.{above, undisturbed, seesDisturbed, seesNew, moved, recomputed}
+use Rattle.anchored.specs.Session.{Row, statusOf, rowOf, turn, after, gained}
 
 -- the graph with these neighbors of 0, of 1, and so on
 abbrev graph : List (List ℕ) → Graph
@@ -48,6 +50,10 @@ module _ (G : Graph) (A : ℕ → Bool) where
   abbrev rows : List (List ℕ)
   rows = let n = G .size in tabulate (level G A) n ∷ tabulate (layer G A) n ∷ tabulate (component G A) n ∷ tabulate (followerCount G A) n ∷ []
 
+  -- net yields
+  abbrev nets : List ℤ
+  nets = tabulate (netYield G A) (G .size)
+
   -- the marks of the search from x, and its counts of followers and of candidates
   abbrev search-from : ℕ → List (List ℕ)
   search-from x = tabulate (mark G A x) (G .size) ∷ (followers G A x ∷ reached G A x ∷ []) ∷ []
@@ -68,6 +74,11 @@ module _ (G : Graph) (A : ℕ → Bool) where
       tabulate (λ i. row i .status) m ∷ tabulate (λ i. row i .lifted) m ∷ tabulate (λ i. row i .redone) m
       ∷ tabulate (after G A requests m .stamps) (G .size) ∷ []
 
+  -- the climbs before and after the requests, and the net yields of the accepted ones
+  abbrev sums : List ℕ → List ℤ
+  sums requests =
+      let m = length requests in pos (climbed G A) ∷ pos (climbed G (after G A requests m .anchors)) ∷ gained G A requests m ∷ []
+
 pub cases :
     -- A
     (rows single (among []) ≡ (0 ∷ []) ∷ (1 ∷ []) ∷ (0 ∷ []) ∷ (0 ∷ []) ∷ [])
@@ -83,6 +94,8 @@ pub cases :
     × (search-from chain (among (0 ∷ [])) 3 ≡ (0 ∷ 2 ∷ 2 ∷ 0 ∷ []) ∷ (2 ∷ 2 ∷ []) ∷ [])
     -- E: neighbors anchored earlier count
     × (rows chain (among (0 ∷ 3 ∷ [])) ≡ (65535 ∷ 2 ∷ 2 ∷ 65535 ∷ []) ∷ (0 ∷ 1 ∷ 1 ∷ 0 ∷ []) ∷ (65535 ∷ 1 ∷ 1 ∷ 65535 ∷ []) ∷ (65535 ∷ 0 ∷ 0 ∷ 65535 ∷ []) ∷ [])
+    -- each gives up its climb
+    × (nets chain (among (0 ∷ 3 ∷ [])) ≡ negsuc 32767 ∷ negsuc 0 ∷ negsuc 0 ∷ negsuc 32767 ∷ [])
     -- F
     × (rows (graph ((1 ∷ 3 ∷ []) ∷ (0 ∷ 2 ∷ []) ∷ (1 ∷ 3 ∷ []) ∷ (0 ∷ 2 ∷ []) ∷ [])) (among []) ≡ (2 ∷ 2 ∷ 2 ∷ 2 ∷ []) ∷ (1 ∷ 1 ∷ 1 ∷ 1 ∷ []) ∷ (0 ∷ 0 ∷ 0 ∷ 0 ∷ []) ∷ (0 ∷ 0 ∷ 0 ∷ 0 ∷ []) ∷ [])
     -- G
@@ -91,7 +104,8 @@ pub cases :
     -- H
     × (rows (graph ((1 ∷ 2 ∷ 3 ∷ []) ∷ (0 ∷ 2 ∷ 3 ∷ []) ∷ (0 ∷ 1 ∷ 3 ∷ []) ∷ (0 ∷ 1 ∷ 2 ∷ []) ∷ [])) (among []) ≡ (3 ∷ 3 ∷ 3 ∷ 3 ∷ []) ∷ (1 ∷ 1 ∷ 1 ∷ 1 ∷ []) ∷ (0 ∷ 0 ∷ 0 ∷ 0 ∷ []) ∷ (0 ∷ 0 ∷ 0 ∷ 0 ∷ []) ∷ [])
     -- I: the first request has rows recomputed, though every level stays
-    × (session chain (among []) (0 ∷ 0 ∷ 3 ∷ 9 ∷ []) ≡ (0 ∷ 16 ∷ 0 ∷ 15 ∷ []) ∷ (0 ∷ 0 ∷ 2 ∷ 0 ∷ []) ∷ (2 ∷ 0 ∷ 1 ∷ 0 ∷ []) ∷ (1 ∷ 0 ∷ 3 ∷ 3 ∷ []) ∷ [])
+    × (session chain (among []) (0 ∷ 0 ∷ 3 ∷ 9 ∷ []) ≡ (0 ∷ 16 ∷ 0 ∷ 15 ∷ []) ∷ (0 ∷ 0 ∷ 2 ∷ 0 ∷ []) ∷ (2 ∷ 0 ∷ 2 ∷ 0 ∷ []) ∷ (1 ∷ 3 ∷ 3 ∷ 3 ∷ []) ∷ [])
+    × (sums chain (among []) (0 ∷ 0 ∷ 3 ∷ 9 ∷ []) ≡ pos 0 ∷ pos 2 ∷ pos 2 ∷ [])
     -- J, and the defined sheet
     × (verdicts chain (among []) (1 ∷ 1 ∷ 1 ∷ 1 ∷ []) (1 ∷ 2 ∷ 3 ∷ 1 ∷ []) ≡ false ∷ false ∷ [])
     × (verdicts chain (among []) (1 ∷ 1 ∷ 1 ∷ 1 ∷ []) (1 ∷ 2 ∷ 2 ∷ 1 ∷ []) ≡ true ∷ true ∷ [])
@@ -111,6 +125,8 @@ pub cases :
     × (session kite (among (1 ∷ [])) (3 ∷ []) ≡ (0 ∷ []) ∷ (0 ∷ []) ∷ (1 ∷ []) ∷ (0 ∷ 0 ∷ 1 ∷ 1 ∷ []) ∷ [])
     × (session broom (among (2 ∷ 3 ∷ [])) (0 ∷ []) ≡ (0 ∷ []) ∷ (0 ∷ []) ∷ (1 ∷ []) ∷ (1 ∷ 1 ∷ 0 ∷ 0 ∷ 0 ∷ []) ∷ [])
     × (session broom (among (2 ∷ 3 ∷ [])) (4 ∷ []) ≡ (0 ∷ []) ∷ (1 ∷ []) ∷ (1 ∷ []) ∷ (0 ∷ 1 ∷ 0 ∷ 0 ∷ 1 ∷ []) ∷ [])
+    -- the level of 0 changes, and it looks into no component
+    × (session (graph ((1 ∷ 2 ∷ []) ∷ (0 ∷ []) ∷ (0 ∷ []) ∷ [])) (among (1 ∷ [])) (2 ∷ []) ≡ (0 ∷ []) ∷ (1 ∷ []) ∷ (1 ∷ []) ∷ (1 ∷ 0 ∷ 1 ∷ []) ∷ [])
     -- a first step may go to a higher level, a further one may not; a candidate need not follow
     × (search-from kite (among []) 3 ≡ (1 ∷ 0 ∷ 0 ∷ 0 ∷ []) ∷ (0 ∷ 1 ∷ []) ∷ [])
     × (search-from (graph ((1 ∷ []) ∷ (0 ∷ 2 ∷ []) ∷ (1 ∷ 3 ∷ 5 ∷ 6 ∷ []) ∷ (2 ∷ 4 ∷ 5 ∷ []) ∷ (3 ∷ 5 ∷ []) ∷ (2 ∷ 3 ∷ 4 ∷ []) ∷ (2 ∷ []) ∷ [])) (among (5 ∷ 6 ∷ [])) 0 ≡ (0 ∷ 2 ∷ 0 ∷ 0 ∷ 0 ∷ 0 ∷ 0 ∷ []) ∷ (1 ∷ 1 ∷ []) ∷ [])
@@ -121,8 +137,10 @@ pub cases :
     -- the component list: two levels; equal levels; a higher number first because of its level; all anchored; no vertices
     × (ranked kite (among []) ∷ ranked star (among (0 ∷ [])) ∷ ranked (graph ([] ∷ (2 ∷ []) ∷ (1 ∷ []) ∷ [] ∷ [])) (among []) ∷ ranked chain (among (0 ∷ 1 ∷ 2 ∷ 3 ∷ [])) ∷ ranked (graph []) (among []) ∷ []
     ≡ (0 ∷ 3 ∷ []) ∷ (1 ∷ 2 ∷ 3 ∷ []) ∷ (1 ∷ 0 ∷ 3 ∷ []) ∷ [] ∷ [] ∷ [])
-    -- the choice of a round: the greatest count, the lowest of equals, also at 0; the size if all are anchored
-    × (choice chain (among (0 ∷ [])) ∷ choice star (among (1 ∷ [])) ∷ choice chain (among []) ∷ choice single (among (0 ∷ [])) ∷ [] ≡ 3 ∷ 2 ∷ 0 ∷ 1 ∷ [])
+    -- the choice of a round: the greatest net yield, the lowest of equals, also at 0 and below; the size if all are anchored
+    × (choice chain (among (0 ∷ [])) ∷ choice star (among (1 ∷ [])) ∷ choice chain (among []) ∷ choice chain (among (0 ∷ 3 ∷ [])) ∷ choice single (among (0 ∷ [])) ∷ [] ≡ 3 ∷ 2 ∷ 0 ∷ 1 ∷ 1 ∷ [])
+    -- 0 and 3 have no followers, and 0 has climbed
+    × (choice (graph ((1 ∷ 2 ∷ []) ∷ (0 ∷ []) ∷ (0 ∷ []) ∷ [] ∷ [])) (among (1 ∷ 2 ∷ [])) ≡ 3)
     -- a collapse: x itself is not marked; nobody falls where enough are left, or by one of a lower level; x's own component and a lower one fall
     × (collapse-of (graph ((1 ∷ []) ∷ (0 ∷ []) ∷ [])) (among []) 0 ≡ (0 ∷ 1 ∷ []) ∷ (1 ∷ 1 ∷ []) ∷ [])
     × (collapse-of chain (among []) 0 ≡ (0 ∷ 0 ∷ 0 ∷ 0 ∷ []) ∷ (1 ∷ 1 ∷ 1 ∷ 1 ∷ []) ∷ [])
@@ -132,5 +150,5 @@ pub cases :
     × (collapse-of kite (among []) 1 ≡ (1 ∷ 0 ∷ 1 ∷ 0 ∷ []) ∷ (1 ∷ 1 ∷ 1 ∷ 0 ∷ []) ∷ [])
     × (collapse-of chain (among (0 ∷ 3 ∷ [])) 0 ≡ (0 ∷ 1 ∷ 1 ∷ 0 ∷ []) ∷ (0 ∷ 1 ∷ 1 ∷ 0 ∷ []) ∷ [])
     × (collapse-of star (among (1 ∷ [])) 1 ≡ (0 ∷ 0 ∷ 0 ∷ 0 ∷ []) ∷ (1 ∷ 0 ∷ 1 ∷ 1 ∷ []) ∷ [])
-unfolding tabulate below count any all firstFrom first largest select falling keep having rounds grow pairLe batch core level shell layer greater higher joins around component together heads componentSize ranked follows followers followerCount firstStep onward candidates reached mark best choice falls fallMark exposed isDefined misplaced tooHigh tooLow tooLate fits isLocal above undisturbed seesDisturbed seesNew recomputed statusOf rowOf turn after
-cases = (refl, refl, refl, refl, refl, refl, refl, refl, refl, refl, refl, refl, refl, refl, refl, refl, refl, refl, refl, refl, refl, refl, refl, refl, refl, refl, refl, refl, refl, refl, refl, refl, refl, refl, refl, refl, refl, refl, refl, refl, refl, refl, refl)
+unfolding tabulate below count sum any all firstFrom first largest select falling keep having rounds grow pairLe batch core level shell layer greater higher joins around component together heads componentSize ranked follows followers followerCount firstStep onward candidates reached mark bareLevel climb net netYield climbed best choice falls fallMark exposed isDefined misplaced tooHigh tooLow tooLate fits isLocal above undisturbed seesDisturbed seesNew moved recomputed statusOf rowOf turn after gained
+cases = (refl, refl, refl, refl, refl, refl, refl, refl, refl, refl, refl, refl, refl, refl, refl, refl, refl, refl, refl, refl, refl, refl, refl, refl, refl, refl, refl, refl, refl, refl, refl, refl, refl, refl, refl, refl, refl, refl, refl, refl, refl, refl, refl, refl, refl, refl, refl)

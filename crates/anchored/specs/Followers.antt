@@ -1,11 +1,11 @@
--- Document 01, "The local search": followers (riders lifted), candidates (riders reached), marks, and the choice of a round.
+-- Document 01, "The local search": followers (riders lifted), candidates (riders reached), marks.
 use mathlib.Core.Path.{_≡_}
 use mathlib.Core.Bool.{Bool, not, cond, _&&_, _||_}
 use mathlib.Core.List.{List}
 use Prim.Native.Nat.{ℕ, _<_}
-use lib.Dec.{T, leb, ltb, eqb}
+use lib.Dec.{T, ltb, eqb}
 use Rattle.finite.specs.Count.{In, count, below}
-use Rattle.finite.specs.Search.{any, all, member, first}
+use Rattle.finite.specs.Search.{any, member}
 use Rattle.finite.specs.Sets.{has, having, rounds, grow}
 use Rattle.anchored.specs.Graph.{Graph}
 use Rattle.anchored.specs.Core.{level, layer, greater}
@@ -23,7 +23,7 @@ module _ (G : Graph) (A : ℕ → Bool) where
   unfoldable pub followers : ℕ → ℕ
   followers x = count (follows x) (below (G .size))
 
-  -- the follower count (yield) of a row: 65,535 for an anchored vertex
+  -- the follower count of a row: 65,535 for an anchored vertex
   unfoldable pub followerCount : ℕ → ℕ
   followerCount x = cond (A x) 65535 (followers x)
 
@@ -51,11 +51,3 @@ module _ (G : Graph) (A : ℕ → Bool) where
   -- the mark of v in the search from x
   unfoldable pub mark : ℕ → ℕ → ℕ
   mark x v = cond (follows x v) 2 (cond (has (candidates x) v) 1 0)
-
-  -- no vertex that is not anchored has more followers than v
-  unfoldable pub best : ℕ → Bool
-  best v = not (A v) && all (λ w. A w || leb (followers w) (followers v)) (below (G .size))
-
-  -- the choice of a round: the lowest best vertex; size if all are anchored
-  unfoldable pub choice : ℕ
-  choice = first best (G .size)

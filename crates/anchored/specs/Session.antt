@@ -4,9 +4,11 @@ use mathlib.Core.List.{List}
 use Prim.Native.Nat.{ℕ, zero, suc}
 use lib.ListN.{getD}
 use lib.Dec.{ltb, eqb}
+use lib.IntN.{ℤ, pos, _+ℤ_}
 use Rattle.finite.specs.Count.{count, below}
 use Rattle.anchored.specs.Graph.{Graph}
 use Rattle.anchored.specs.Followers.{adding, followers}
+use Rattle.anchored.specs.Yield.{net}
 use Rattle.anchored.specs.Step.{recomputed}
 
 -- what the plain session keeps: the set of anchors, and a stamp for each vertex
@@ -41,3 +43,9 @@ module _ (G : Graph) where
   unfoldable pub after : (ℕ → Bool) → List ℕ → ℕ → Plain
   after A requests zero = record { anchors = A; stamps = λ v. 0 }
   after A requests (suc i) = turn (suc i) (getD requests i 0) (after A requests i)
+
+  -- the net yields of the accepted ones among the first i requests, each as it stood just before its step, together
+  unfoldable pub gained : (ℕ → Bool) → List ℕ → ℕ → ℤ
+  gained A requests zero = pos 0
+  gained A requests (suc i) = let B = after A requests i .anchors in let x = getD requests i 0 in
+      gained A requests i +ℤ cond (eqb (statusOf B x) 0) (net G B x) (pos 0)

@@ -26,5 +26,9 @@ module _ (G : Graph) (A B : ℕ → Bool) where
   unfoldable pub seesNew : ℕ → Bool
   seesNew u = any (λ v. not (B v) && greater G B v u && not (undisturbed v)) (G .neighbors u)
 
+  -- the level of u changed (document 02, card 4)
+  unfoldable pub moved : ℕ → Bool
+  moved u = not (eqb (level G A u) (level G B u))
+
   unfoldable pub recomputed : ℕ → Bool
-  recomputed u = not (B u) && (seesDisturbed u || seesNew u)
+  recomputed u = not (B u) && (seesDisturbed u || seesNew u || moved u)

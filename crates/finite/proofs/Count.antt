@@ -10,7 +10,7 @@ use native.Mathlib.Omega.{arith}
 use lib.ListN.{length, take, drop, getD, set, replicate, length-append, length-replicate, getD-replicate, List·getD-append, List·getD-eq-default}
 use lib.Seq.{take-suc, take-all, length-take-le, getD-take, set-at, drop-cons, drop-length, getD-at, ext-getD, getD-drop, getD-append-add, getD-set-same, getD-set-other}
 use lib.Dec.{T, leb, eqb, leb→le, nleb→lt, T-not, not-T, eqb→eq, eqb-refl, ltb, ltb→lt, nltb→le}
-use Rattle.finite.specs.Count.{bit, tabulate, below, count, In, Distinct}
+use Rattle.finite.specs.Count.{bit, tabulate, below, count, sum, In, Distinct}
 use Rattle.finite.proofs.Tests.{and-i, and-l, and-r, split, neqb, true-of, false-of}
 
 -- ---- bit
@@ -110,46 +110,51 @@ zeros-at m i = split (leb (suc i) m)
 -- ---- tabulate
 
 -- a loop that stores numbers one after the other over d: p are stored, and one more
-pub store-more : (p d e : List ℕ) (i x : ℕ) → length p ≡ i → e ≡ p ++ drop i d → i < length d → set e i x ≡ (p ++ x ∷ []) ++ drop (i + 1) d
+pub store-more : {X : Type 0} (p d e : List X) (i : ℕ) (x : X) → length p ≡ i → e ≡ p ++ drop i d → i < length d → set e i x ≡ (p ++ x ∷ []) ++ drop (i + 1) d
 store-more p d e i x l q h =
-    let r : drop i d ≡ getD d i 0 ∷ drop (suc i) d = drop-cons d i 0 h in
-    rw (q, r, add-one, append-assoc, set-at p (getD d i 0) (drop (suc i) d) x i l)
+    let r : drop i d ≡ getD d i x ∷ drop (suc i) d = drop-cons d i x h in
+    rw (q, r, add-one, append-assoc, set-at p (getD d i x) (drop (suc i) d) x i l)
 
-module _ (f : ℕ → ℕ) where
+module _ {X : Type 0} (f : ℕ → X) where
   pub length-tabulate : (n : ℕ) → length (tabulate f n) ≡ n
   unfolding tabulate
   length-tabulate zero = refl
   length-tabulate (suc n) = omega (arith, length-append (tabulate f n) (f n ∷ []), length-tabulate n)
 
-  pub tabulate-at : (n i : ℕ) → i < n → getD (tabulate f n) i 0 ≡ f i
+  -- read with any default
+  pub tabulate-reads : (d : X) (n i : ℕ) → i < n → getD (tabulate f n) i d ≡ f i
   unfolding tabulate
-  tabulate-at zero i h = absurd (omega arith)
-  tabulate-at (suc n) i h =
+  tabulate-reads d zero i h = absurd (omega arith)
+  tabulate-reads d (suc n) i h =
       let l : i ≤ n = omega arith in
       ⊎-elim
-      (λ e. rw e (getD-at (tabulate f n) (f n) [] 0 n (length-tabulate n)))
-      (λ lt. List·getD-append (tabulate f n) (f n ∷ []) 0 i (omega (arith, length-tabulate n)) ∙ tabulate-at n i lt)
+      (λ e. rw e (getD-at (tabulate f n) (f n) [] d n (length-tabulate n)))
+      (λ lt. List·getD-append (tabulate f n) (f n ∷ []) d i (omega (arith, length-tabulate n)) ∙ tabulate-reads d n i lt)
       (eq-or-lt-of-le l)
 
   -- a loop that stores f 0, f 1, .. over d: nothing stored, one more stored, all stored
-  pub fill-none : (d : List ℕ) → d ≡ tabulate f 0 ++ drop 0 d
+  pub fill-none : (d : List X) → d ≡ tabulate f 0 ++ drop 0 d
   unfolding tabulate
   fill-none d = refl
 
-  pub fill-more : (d e : List ℕ) (i : ℕ) → e ≡ tabulate f i ++ drop i d → i < length d → set e i (f i) ≡ tabulate f (i + 1) ++ drop (i + 1) d
+  pub fill-more : (d e : List X) (i : ℕ) → e ≡ tabulate f i ++ drop i d → i < length d → set e i (f i) ≡ tabulate f (i + 1) ++ drop (i + 1) d
   unfolding tabulate
   fill-more d e i q h = store-more (tabulate f i) d e i (f i) (length-tabulate i) q h ∙ ap (λ j. tabulate f j ++ drop (i + 1) d) (sym (add-one i))
 
-  pub fill-all : (d : List ℕ) (i : ℕ) → i ≡ length d → tabulate f i ++ drop i d ≡ tabulate f i
+  pub fill-all : (d : List X) (i : ℕ) → i ≡ length d → tabulate f i ++ drop i d ≡ tabulate f i
   fill-all d i q = rw (q, drop-length, append-nil)
+
+module _ (f : ℕ → ℕ) where
+  pub tabulate-at : (n i : ℕ) → i < n → getD (tabulate f n) i 0 ≡ f i
+  tabulate-at n i h = tabulate-reads f 0 n i h
 
   -- where the next store goes still stands the old element
   pub fill-here : (d e : List ℕ) (i : ℕ) → e ≡ tabulate f i ++ drop i d → i < length d → getD e i 0 ≡ getD d i 0
   fill-here d e i q h =
       let r : drop i d ≡ getD d i 0 ∷ drop (suc i) d = drop-cons d i 0 h in
-      rw (q, r) (getD-at (tabulate f i) (getD d i 0) (drop (suc i) d) 0 i (length-tabulate i))
+      rw (q, r) (getD-at (tabulate f i) (getD d i 0) (drop (suc i) d) 0 i (length-tabulate f i))
 
-pub tabulate-cong : (f g : ℕ → ℕ) (n : ℕ) → ((i : ℕ) → i < n → f i ≡ g i) → tabulate f n ≡ tabulate g n
+pub tabulate-cong : {X : Type 0} (f g : ℕ → X) (n : ℕ) → ((i : ℕ) → i < n → f i ≡ g i) → tabulate f n ≡ tabulate g n
 unfolding tabulate
 tabulate-cong f g zero e = refl
 tabulate-cong f g (suc n) e = let r = tabulate-cong f g n (λ i h. e i (omega arith)) in let q = e n (omega arith) in rw (r, q)
@@ -384,3 +389,39 @@ set-reads xs x y v h = split (eqb x v)
     let here = eqb→eq x v t in
     rw (true-of (eqb x v) t) (subst (λ z. getD (set xs x y) z 0 ≡ y) here (getD-set-same xs x y 0 (h here))))
     (λ t. rw (false-of (eqb x v) t) (getD-set-other xs x v y 0 (λ e. neqb x v t (sym e))))
+
+-- ---- sum
+
+-- sums that agree term by term, two against two
+pub sum-pairs : (f g h k : ℕ → ℕ) (l : List ℕ) → ((w : ℕ) → In w l → f w + g w ≡ h w + k w) → sum f l + sum g l ≡ sum h l + sum k l
+unfolding sum
+sum-pairs f g h k [] e = refl
+sum-pairs f g h k (u ∷ us) e = omega (arith, e u (inl refl), sum-pairs f g h k us (λ w i. e w (inr i)))
+
+pub sum-cong : (f g : ℕ → ℕ) (l : List ℕ) → ((w : ℕ) → In w l → f w ≡ g w) → sum f l ≡ sum g l
+unfolding sum
+sum-cong f g [] e = refl
+sum-cong f g (u ∷ us) e = omega (arith, e u (inl refl), sum-cong f g us (λ w i. e w (inr i)))
+
+-- a count is a sum of bits
+pub sum-bits : (p : ℕ → Bool) (l : List ℕ) → sum (λ w. bit (p w)) l ≡ count p l
+unfolding sum count
+sum-bits p [] = refl
+sum-bits p (u ∷ us) = omega (arith, sum-bits p us)
+
+-- the sum of a number at x, and 0 elsewhere, in a list that has x once
+pub sum-one : (x c : ℕ) (l : List ℕ) → Distinct l → In x l → sum (λ w. cond (eqb x w) c 0) l ≡ c
+unfolding sum
+sum-one x c [] d i = absurd i
+sum-one x c (u ∷ us) d (inl e) =
+    let here = ap (λ b. cond b c 0) (true-of (eqb x u) (subst (λ z. T (eqb x z)) e (eqb-refl x))) in
+    omega (arith, here, rest us (λ j. d .0 (subst (λ z. In z us) e j)))
+  where
+    rest : (l : List ℕ) → (In x l → ⊥) → sum (λ w. cond (eqb x w) c 0) l ≡ 0
+    rest [] f = refl
+    rest (u ∷ us) f =
+        let other = ap (λ b. cond b c 0) (false-of (eqb x u) (not-T (eqb x u) (λ t. f (inl (eqb→eq x u t))))) in
+        omega (arith, other, rest us (λ j. f (inr j)))
+sum-one x c (u ∷ us) d (inr i) =
+    let other = ap (λ b. cond b c 0) (false-of (eqb x u) (not-T (eqb x u) (λ t. d .0 (subst (λ z. In z us) (eqb→eq x u t) i)))) in
+    omega (arith, other, sum-one x c us (d .1) i)

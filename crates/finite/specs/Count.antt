@@ -1,4 +1,4 @@
--- Lists of numbers: the table of a function, membership, and how many numbers pass a test. The laws are in proofs/Count.
+-- The table of a function; lists of numbers: membership, how many pass a test, sums. The laws are in proofs/Count.
 use mathlib.Core.Path.{_≡_}
 use mathlib.Core.Logic.{_⊎_}
 use mathlib.Core.Bool.{Bool}
@@ -11,7 +11,7 @@ abbrev pub bit : Bool → ℕ
 bit b = boolByte b
 
 -- f 0, f 1, .., f (n - 1)
-unfoldable pub tabulate : (ℕ → ℕ) → ℕ → List ℕ
+unfoldable pub tabulate : {X : Type 0} → (ℕ → X) → ℕ → List X
 tabulate f zero = []
 tabulate f (suc n) = tabulate f n ++ f n ∷ []
 
@@ -23,6 +23,11 @@ below n = tabulate (λ i. i) n
 unfoldable pub count : (ℕ → Bool) → List ℕ → ℕ
 count p [] = 0
 count p (w ∷ ws) = bit (p w) + count p ws
+
+-- the sum of f over a list
+unfoldable pub sum : (ℕ → ℕ) → List ℕ → ℕ
+sum f [] = 0
+sum f (w ∷ ws) = f w + sum f ws
 
 abbrev pub In : ℕ → List ℕ → Type 0
 In w [] = ⊥

@@ -17,15 +17,15 @@ pub extern "C" fn planner_run(
     levels: &mut [u16],
     layers: &mut [u16],
     components: &mut [u16],
-    followers: &mut [u16],
+    yields: &mut [i16],
     stamps: &mut [u16],
     status: &mut [u16],
     lifted: &mut [u16],
     redone: &mut [u16],
 ) -> Answer
     ensures { λ r.
-        let lent = slices (old anchored) (old levels) (old layers) (old components) (old followers) (old stamps) (old status) (old lifted) (old redone) in
-        let after = slices (final anchored) (final levels) (final layers) (final components) (final followers) (final stamps) (final status) (final lifted) (final redone) in
+        let lent = slices (old anchored) (old levels) (old layers) (old components) (old yields) (old stamps) (old status) (old lifted) (old redone) in
+        let after = slices (final anchored) (final levels) (final layers) (final components) (final yields) (final stamps) (final status) (final lifted) (final redone) in
         let guard = runOf (old starts) (old links) (old given) (old requests) lent in
         ⌜ (r ≡ answer guard (acceptedAs 0 0) refusedAs) × (after ≡ held guard (ended (old starts) (old links) (old given) (old requests)) lent) ⌝ }
     ensures claim { λ r. ⌜ (r .number ≡ 0 → Claim (old starts) (old links) (old given) (old requests)) ⌝ }
@@ -39,7 +39,7 @@ pub extern "C" fn planner_run(
         levels,
         layers,
         components,
-        followers,
+        yields,
         stamps,
         status,
         lifted,

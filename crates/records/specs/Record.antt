@@ -5,16 +5,19 @@ use Prim.Native.Nat.{ℕ, _≤_}
 use lib.ListN.{length, getD}
 use Rattle.table.specs.Table.{vertices}
 use Rattle.anchored.specs.Followers.{followerCount}
+use Rattle.anchored.specs.Yield.{bareLevel}
 use Rattle.anchored.specs.Session.{Plain, after}
 use Rattle.pool.specs.Input.{graphOf, anchoredBy, Admitted}
 use Rattle.pool.specs.Arrays.{Holds}
 use Rattle.stale.specs.Columns.{ColumnsOf}
 use Rattle.records.specs.declared.Record.{Record}
 
--- the record is right: its columns and every follower count are those of its anchored bytes; there is a stamp for each vertex
+-- the record is right: its columns and every follower count are those of its anchored bytes, the bare levels those of its table; there is a
+-- stamp for each vertex
 pub record Right (s l : List ℕ) (kept : Record) : Type 0 where
   pub admitted : Admitted s l (kept .anchored)
   pub columns : ColumnsOf (graphOf s l) (anchoredBy (kept .anchored)) (kept .columns)
+  pub bares : Holds (kept .bare) (vertices s) (bareLevel (graphOf s l))
   pub counts : Holds (kept .followers) (vertices s) (followerCount (graphOf s l) (anchoredBy (kept .anchored)))
   pub counts-long : vertices s ≤ length (kept .followers)
   pub stamps-long : vertices s ≤ length (kept .stamp)

@@ -1,11 +1,12 @@
-// Worked afresh: the columns of a table with anchored vertices, and the follower count of a row.
+// Worked afresh: the columns of a table with anchored vertices, its bare levels, and the follower count of a row.
 ghost use mathlib.Core.Path.{_≡_};
 ghost use Prim.Native.Nat.{_<_};
-ghost use Rattle.finite.specs.Moments.{old};
-ghost use Rattle.table.specs.Table.{vertices};
+ghost use Rattle.finite.specs.Moments.{old, final};
+ghost use Rattle.table.specs.Table.{vertices, SoundTable};
 ghost use Rattle.anchored.specs.Core.{level as levelOf};
 ghost use Rattle.anchored.specs.Core.{layer as layerOf};
 ghost use Rattle.anchored.specs.Followers.{followerCount};
+ghost use Rattle.anchored.specs.Yield.{bareLevel};
 ghost use Rattle.pool.specs.Input.{graphOf, anchoredBy, Admitted};
 ghost use Rattle.pool.specs.Arrays.{Holds};
 ghost use Rattle.stale.specs.Columns.{ColumnsOf};
@@ -35,6 +36,16 @@ pub fn refresh(starts: &[u16], links: &[u16], anchored: &[u8; 1024]) -> Columns
         component,
         above,
     }
+}
+
+// Bare levels, those with nobody anchored, into the first n places.
+pub fn fill_bare(starts: &[u16], links: &[u16], bare: &mut [u16; 1024])
+    requires { ⌜ SoundTable (now starts) (now links) ⌝ }
+    ensures { λ _. ⌜ Holds (final bare) (vertices (old starts)) (bareLevel (graphOf (old starts) (old links))) ⌝ }
+{
+    let nobody = [0u8; 1024];
+    let mut layer = [0u16; 1024];
+    peel::peel(starts, links, &nobody, bare, &mut layer);
 }
 
 // The follower count of u, by the search from u; 65,535 for an anchored vertex.

@@ -62,11 +62,14 @@ pub fn begin(starts: &[u16], links: &[u16], given: &[u8]) -> Record
     let columns = super::afresh::refresh(starts, links, &anchored);
     let level = columns.level;
     let layer = columns.layer;
+    let mut bare = [0u16; 1024];
+    super::afresh::fill_bare(starts, links, &mut bare);
     let mut followers = [0u16; 1024];
     count_rows(starts, links, &anchored, &level, &layer, &mut followers);
     Record {
         anchored,
         columns,
+        bare,
         followers,
         stamp: [0; 1024],
     }

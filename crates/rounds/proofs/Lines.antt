@@ -10,7 +10,8 @@ use borrow.Author.Tests.{lt-ltb, le-ltb}
 use Rattle.finite.specs.Bytes.{bytes}
 use Rattle.finite.proofs.Count.{tabulate-cong, zeros-at}
 use Rattle.anchored.specs.Graph.{Graph}
-use Rattle.anchored.specs.Followers.{follows, mark, choice}
+use Rattle.anchored.specs.Followers.{follows, mark}
+use Rattle.anchored.specs.Yield.{choice}
 use Rattle.anchored.specs.Session.{Plain, rowOf}
 use Rattle.anchored.proofs.Session.{mark-two}
 use Rattle.pool.specs.Arrays.{Holds}

@@ -12,12 +12,14 @@ use Rattle.finite.proofs.Tests.{neqb}
 use Rattle.finite.proofs.Search.{first-le}
 use Rattle.table.specs.Table.{vertices}
 use Rattle.anchored.specs.Graph.{Graph}
-use Rattle.anchored.specs.Followers.{mark, choice}
+use Rattle.anchored.specs.Followers.{mark}
+use Rattle.anchored.specs.Yield.{choice}
 use Rattle.anchored.specs.Session.{Plain, turn, rowOf, after}
 use Rattle.anchored.proofs.Choice.{choice-best, best-free}
 use Rattle.pool.specs.Input.{graphOf, anchoredBy}
 use Rattle.pool.specs.Arrays.{Holds}
 use Rattle.records.specs.Record.{Right, plainOf, Stands, Keeps, sessionOf}
+use Rattle.records.specs.Yield.{yieldAt}
 use Rattle.step.specs.Turn.{Turned}
 use Rattle.records.specs.declared.Record.{Record}
 use Rattle.step.specs.declared.Stepped.{Stepped}
@@ -33,7 +35,7 @@ use Rattle.rounds.proofs.Lines.{line-some, line-none}
 
 -- ---- one round
 
-module _ {s l : List ℕ} {kept : Record} (right : Right s l kept) {x : ℕ} (found : x ≡ choiceBy (vertices s) (kept .anchored) (kept .followers)) where
+module _ {s l : List ℕ} {kept : Record} (right : Right s l kept) {x : ℕ} (found : x ≡ choiceBy (vertices s) (yieldAt kept)) where
   abbrev G : Graph
   G = graphOf s l
 
@@ -54,7 +56,7 @@ module _ {s l : List ℕ} {kept : Record} (right : Right s l kept) {x : ℕ} (fo
 
   -- it is a vertex unless it is n
   pub chosen-low : (x ≡ vertices s → ⊥) → x < vertices s
-  chosen-low other = omega (arith, found, first-le (bestBy (vertices s) (kept .anchored) (kept .followers)) (vertices s))
+  chosen-low other = omega (arith, found, first-le (bestBy (vertices s) (yieldAt kept)) (vertices s))
 
   module _ (number : ℕ) {o : List ℕ} {at : ℕ} {oNow : List ℕ} {end : ℕ} where
     -- the line written is that of the round, for a vertex and for nobody

@@ -10,7 +10,8 @@ use Rattle.finite.specs.Count.{count, below, tabulate}
 use Rattle.finite.proofs.Count.{tabulate-at, count-none}
 use Rattle.finite.proofs.Search.{first-le}
 use Rattle.anchored.specs.Graph.{Graph}
-use Rattle.anchored.specs.Followers.{followers, best, choice}
+use Rattle.anchored.specs.Followers.{followers}
+use Rattle.anchored.specs.Yield.{best, choice}
 use Rattle.anchored.specs.Session.{Plain, statusOf, turn, rowOf, after}
 use Rattle.anchored.proofs.Session.{status-free, status-beyond, row-accepted, row-refused}
 use Rattle.anchored.proofs.Choice.{choice-best, best-free}

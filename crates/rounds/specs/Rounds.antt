@@ -1,15 +1,16 @@
 -- Document 01, "Rounds and the answer sheet": a round is a session's name, and its name is the choice.
-use mathlib.Core.Bool.{Bool, false, not, cond, _&&_, _||_}
+use mathlib.Core.Bool.{Bool, false, cond, _&&_}
 use mathlib.Core.List.{List, [], _∷_, _++_}
 use Prim.Native.Nat.{ℕ, zero, suc}
-use lib.ListN.{getD}
-use lib.Dec.{leb, ltb}
+use lib.IntN.{ℤ}
+use lib.Signed.{leZ, ltZ}
+use lib.Dec.{ltb}
 use Rattle.finite.specs.Count.{below}
 use Rattle.finite.specs.Search.{all, first}
 use Rattle.anchored.specs.Graph.{Graph}
-use Rattle.anchored.specs.Followers.{follows, choice}
+use Rattle.anchored.specs.Followers.{follows}
+use Rattle.anchored.specs.Yield.{least, choice}
 use Rattle.anchored.specs.Session.{Plain, turn, rowOf}
-use Rattle.pool.specs.Input.{anchoredBy}
 use Rattle.sheet.specs.Line.{Round, lineOf}
 use Rattle.sheet.specs.declared.line.Chosen.the-variants.{Vertex, Nobody}
 
@@ -33,10 +34,10 @@ roundsOf G A (suc r) = roundsOf G A r ++ roundOn G (played G A r) ∷ []
 abbrev pub shown : ℕ → ℕ → Round → List ℕ
 shown n number r = lineOf number (r .chosen) (r .lifted) n (r .redone)
 
--- by the anchored bytes and the follower counts of a record: v is not anchored, and no such vertex has more followers
-unfoldable pub bestBy : ℕ → List ℕ → List ℕ → ℕ → Bool
-bestBy n a fol v = not (anchoredBy a v) && all (λ w. anchoredBy a w || leb (getD fol w 0) (getD fol v 0)) (below n)
+-- by yields: v has one above the least, which an anchored vertex has, and no vertex below n has a greater one
+unfoldable pub bestBy : ℕ → (ℕ → ℤ) → ℕ → Bool
+bestBy n yield v = ltZ least (yield v) && all (λ w. leZ (yield w) (yield v)) (below n)
 
--- the lowest best vertex; n if all are anchored
-abbrev pub choiceBy : ℕ → List ℕ → List ℕ → ℕ
-choiceBy n a fol = first (bestBy n a fol) n
+-- the lowest best vertex; n if there is none
+abbrev pub choiceBy : ℕ → (ℕ → ℤ) → ℕ
+choiceBy n yield = first (bestBy n yield) n

@@ -1,43 +1,28 @@
-// Whom a round anchors: of those not anchored the one of the greatest follower count, the lowest among equals.
+// Whom a round anchors: of those not anchored the one of the greatest net yield, the lowest among equals.
 ghost use mathlib.Core.Path.{_≡_};
-ghost use mathlib.Core.Bool.{not, _&&_, _||_};
-ghost use Prim.Native.Nat.{_≤_, _<_};
-ghost use lib.ListN.{getD};
-ghost use lib.Dec.{ltb, eqb};
-ghost use Rattle.finite.specs.Moments.{old};
-ghost use Rattle.pool.specs.Input.{anchoredBy};
+ghost use Prim.Native.Nat.{_≤_};
+ghost use Rattle.records.specs.Yield.{yieldAt, Smalls};
 ghost use Rattle.rounds.specs.Rounds.{choiceBy};
+use records::Record;
 
-// Whether v takes the place of the one chosen so far, n being nobody.
-fn is_better(
-    n: usize,
-    anchored: &[u8; 1024],
-    followers: &[u16; 1024],
-    chosen: usize,
-    v: usize,
-) -> bool
-    requires { ⌜ (n ≤ 1024) × (chosen ≤ n) × (v < n) ⌝ }
-    ensures { λ r. ⌜ r ≡ not (anchoredBy (old anchored) v) && (eqb chosen n || ltb (getD (old followers) chosen 0) (getD (old followers) v 0)) ⌝ }
-{
-    if anchored[v] == 1 {
-        return false;
-    }
-    if chosen == n {
-        return true;
-    }
-    followers[chosen] < followers[v]
-}
-
-// The choice by the anchored bytes and follower counts of n vertices; n if all are anchored.
-pub fn choose(n: usize, anchored: &[u8; 1024], followers: &[u16; 1024]) -> usize
+// The choice by a record of n vertices; n if all are anchored. An anchored vertex has -32,768, less than any other, and is never chosen.
+pub fn choose(n: usize, kept: Record) -> usize
     requires { ⌜ n ≤ 1024 ⌝ }
-    ensures { λ r. ⌜ r ≡ choiceBy n (old anchored) (old followers) ⌝ }
+    requires { ⌜ Smalls kept n ⌝ }
+    ensures { λ r. ⌜ r ≡ choiceBy n (yieldAt kept) ⌝ }
 {
+    let anchored = kept.anchored;
+    let followers = kept.followers;
+    let level = kept.columns.level;
+    let bare = kept.bare;
     let mut chosen = n;
+    let mut greatest: i16 = -32768;
     let mut v: usize = 0;
     while v < n {
-        if is_better(n, anchored, followers, chosen, v) {
+        let y = records::yields::net_yield(anchored[v], followers[v], level[v], bare[v]);
+        if greatest < y {
             chosen = v;
+            greatest = y;
         }
         v += 1;
     }

@@ -1,4 +1,4 @@
-// Rounds: each anchors the vertex of the greatest follower count, and writes its line.
+// Rounds: each anchors the vertex of the greatest net yield, and writes its line.
 pub mod choose; // whom a round anchors
 pub mod play; // one round
 pub mod write; // the sheet of all rounds

@@ -3,7 +3,7 @@ ghost use Prim.Native.Nat.{_+_, _≤_};
 ghost use lib.ListN.{length};
 ghost use Rattle.finite.specs.Moments.{old, final};
 ghost use Rattle.table.specs.Table.{vertices};
-ghost use Rattle.anchored.specs.Followers.{choice};
+ghost use Rattle.anchored.specs.Yield.{choice};
 ghost use Rattle.anchored.specs.Session.{turn};
 ghost use Rattle.pool.specs.Input.{graphOf, anchoredBy};
 ghost use Rattle.records.specs.Record.{Right, plainOf, Keeps};
@@ -37,14 +37,13 @@ pub fn play(
         ⌜ Written (old out) at (shown (G .size) round (roundOn G (plainOf kept))) (final out) (r .at) ⌝ }
 {
     let n = starts.len() - 1;
-    let anchored = kept.anchored;
-    let followers = kept.followers;
-    let x = super::choose::choose(n, &anchored, &followers);
+    let x = super::choose::choose(n, kept);
     let mut marks = [0u8; 1024];
     if x == n {
         let end = sheet::line::put_line(out, at, round, Chosen::Nobody, &marks, n, 0);
         return Played { kept, at: end };
     }
+    let anchored = kept.anchored;
     let columns = kept.columns;
     let level = columns.level;
     let layer = columns.layer;

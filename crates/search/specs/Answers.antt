@@ -17,7 +17,7 @@ use Rattle.search.specs.declared.operation.Searched.the-variants.{Found,
 unfoldable pub searchOf : List ℕ → List ℕ → List ℕ → List ℕ → List ℕ → ℕ → ℕ → Guard
 searchOf s l a lev lay x m = past (markingOf s l a lev lay x m) (cond (anchoredBy a x) (refused 16 x) Passed)
 
--- the answer: a refusal, or x's follower count (yield) and its reached count
+-- the answer: a refusal, or x's follower count (riders lifted) and its reached count
 unfoldable pub followersOf : List ℕ → List ℕ → List ℕ → List ℕ → List ℕ → ℕ → ℕ → Searched
 followersOf s l a lev lay x m = answer (searchOf s l a lev lay x m) (Found (followers (graphOf s l) (anchoredBy a) x) (reached (graphOf s l) (anchoredBy a) x)) Refused
 

@@ -2,15 +2,16 @@
 use mathlib.Core.Path.{_≡_, refl, sym, ap, ap₂, _∙_, subst, fun-ext}
 use mathlib.Core.Bool.{Bool, true, not, cond, _||_}
 use mathlib.Core.List.{List}
-use Prim.Native.Nat.{ℕ, _+_, _≤_, _<_}
+use Prim.Native.Nat.{ℕ, zero, suc, _+_, _-_, _≤_, _<_}
 use native.Mathlib.Omega.{arith}
 use lib.ListN.{length, take, getD, List·getD-eq-default}
+use lib.IntN.{ℤ, pos, _+ℤ_, _-ℤ_}
 use lib.Seq.{length-take-le, take-length}
 use lib.Dec.{T, ltb, eqb, leb, leb→le, nleb→lt, eqb→eq, eqb-refl, T-not, not-T}
 use borrow.Author.Tests.{ltb-false}
 use Rattle.finite.specs.Count.{bit, tabulate, count, below}
 use Rattle.finite.proofs.Tests.{or-l, or-r, split, true-of, false-of, neqb}
-use Rattle.finite.proofs.Count.{bit-le, bit-one, bit-byte, length-tabulate, tabulate-at, tabulate-cong, tabulate-self, count-cong, in-below}
+use Rattle.finite.proofs.Count.{bit-le, bit-one, bit-byte, length-tabulate, tabulate-reads, tabulate-at, tabulate-cong, tabulate-self, count-cong, sum-cong, in-below}
 use Rattle.table.specs.Table.{vertices, checkOf}
 use Rattle.table.specs.Guard.{refused}
 use Rattle.table.specs.declared.Guard.the-variants.{Passed}
@@ -19,12 +20,14 @@ use Rattle.table.proofs.Laws.{went-on}
 use Rattle.anchored.specs.Graph.{Graph, Simple}
 use Rattle.anchored.specs.Core.{level, layer}
 use Rattle.anchored.specs.Component.{component}
-use Rattle.anchored.specs.Followers.{adding, followers, followerCount, reached, mark}
+use Rattle.anchored.specs.Followers.{adding, followers, reached, mark}
+use Rattle.anchored.specs.Yield.{least, bareLevel, climb, net, netYield, climbed}
 use Rattle.anchored.specs.Step.{recomputed}
-use Rattle.anchored.specs.Session.{Plain, Row, statusOf, turn, rowOf, after}
+use Rattle.anchored.specs.Session.{Plain, Row, statusOf, turn, rowOf, after, gained}
 use Rattle.anchored.proofs.Anchor.{free-adding}
 use Rattle.anchored.proofs.Session.{status-free, turn-accepted, turn-refused, row-accepted, row-refused, after-more, after-prefix, after-beyond, followers-marks, level-lifted}
-use Rattle.anchored.proofs.Step.{kept-followers}
+use Rattle.anchored.proofs.Step.{kept-net}
+use Rattle.anchored.proofs.Net.{climbed-grows}
 use Rattle.pool.specs.Input.{graphOf, anchoredBy, admitOf, Admitted}
 use Rattle.pool.proofs.Laws.{checked-simple, admitted, admits}
 use Rattle.level_sheet.specs.SheetCheck.{Accepted}
@@ -34,7 +37,7 @@ use Rattle.search.specs.declared.operation.Searched.the-variants.{Found}
 use Rattle.search.proofs.Answers.{search-free, followers-found}
 use Rattle.records.specs.Record.{sessionOf}
 use Rattle.session.specs.Run.{Slices, sized, admitRun, runOf, rowAt, ended}
-use Rattle.session.specs.Claim.{upto, set, searched, marks, redone, shown, Fresh, Plainly, Accepts, Refuses, Claim}
+use Rattle.session.specs.Claim.{upto, set, searched, marks, redone, shown, climbs, gains, Fresh, Plainly, Accepts, Refuses, Claim}
 use Rattle.session.proofs.Serving.{admitted-bytes, run-lent}
 
 module _ (s l given requests : List ℕ) (accepted : admitOf s l given ≡ Passed) where
@@ -123,13 +126,21 @@ module _ (s l given requests : List ℕ) (accepted : admitOf s l given ≡ Passe
         let marking = marking-vertex s l bytes lev lay x n bytes-admitted refl ∙ vertex-within s l bytes lev lay x (accepts s l bytes lev lay (given-admitted .table) sheet) b in
         followers-found s l bytes lev lay x n (search-free s l bytes lev lay x n marking (neqb (getD bytes x 0) 1 free))
 
-    count-anchored : (v : ℕ) → v < n → T (set-at i v) → getD (record-at i .followers) v 0 ≡ 65535
-    unfolding followerCount
-    count-anchored v b t = tabulate-at (followerCount G A) n v b ∙ rw (true-of (A v) (subst (λ B. T (B v)) set-is t))
+    yield-anchored : (v : ℕ) → v < n → T (set-at i v) → getD (record-at i .yields) v (pos 0) ≡ least
+    unfolding netYield
+    yield-anchored v b t = tabulate-reads (netYield G A) (pos 0) n v b ∙ rw (true-of (A v) (subst (λ B. T (B v)) set-is t))
 
-    count-free : (v : ℕ) → v < n → T (not (set-at i v)) → getD (record-at i .followers) v 0 ≡ followers G (set-at i) v
-    unfolding followerCount
-    count-free v b t = tabulate-at (followerCount G A) n v b ∙ rw (set-is, false-of (A v) (subst (λ B. T (not (B v))) set-is t))
+    yield-free : (v : ℕ) → v < n → T (not (set-at i v)) → getD (record-at i .yields) v (pos 0) ≡ net G A v
+    unfolding netYield
+    yield-free v b t = tabulate-reads (netYield G A) (pos 0) n v b ∙ rw (false-of (A v) (subst (λ B. T (not (B v))) set-is t))
+
+    yield-made : (v : ℕ) → v < n → net G A v ≡ pos (followers G (set-at i) v) -ℤ pos (getD (record-at i .levels) v 0 - bareLevel G v)
+    unfolding net climb
+    yield-made v b = rw (set-is, tabulate-at (level G A) n v b)
+
+    climbs-are : climbs s l given requests i ≡ climbed G A
+    unfolding climbed climb
+    climbs-are = sum-cong _ _ (below n) (λ v j. ap₂ (λ (b : Bool) (k : ℕ). cond b 0 (k - bareLevel G v)) (ap (λ B. B v) set-is) (tabulate-at (level G A) n v (in-below n v .0 j)))
 
     fresh-at : Fresh s l given requests i
     fresh-at = record {
@@ -137,8 +148,9 @@ module _ (s l given requests : List ℕ) (accepted : admitOf s l given ≡ Passe
       levels = ap (λ B. tabulate (level G B) n) (sym set-is);
       layers = ap (λ B. tabulate (layer G B) n) (sym set-is);
       components = ap (λ B. tabulate (component G B) n) (sym set-is);
-      anchored = count-anchored;
-      followers = λ v b t. search-at v b t ∙ ap (λ k. Found k (reached G (set-at i) v)) (sym (count-free v b t));
+      anchored = yield-anchored;
+      search = search-at;
+      yields = λ v b t. yield-free v b t ∙ yield-made v b;
     }
 
     plain-at : i ≤ m → Plainly s l given requests i
@@ -222,22 +234,22 @@ module _ (s l given requests : List ℕ) (accepted : admitOf s l given ≡ Passe
           ∙ ap (λ S. S .stamps v) turned
           ∙ ap (cond (eqb x v || recomputed G before (adding before x) v) (i + 1)) (sym (tabulate-at (P i .stamps) n v b)))
 
-      -- an anchored vertex other than x reads 65,535 before and after; any other row is kept where it is not recomputed
-      same-count : (v : ℕ) → v < n → T (not (eqb x v)) → T (not (recomputed G before (adding before x) v)) → followerCount G (adding before x) v ≡ followerCount G before v
-      unfolding followerCount
-      same-count v b other r = split (before v)
+      -- an anchored vertex other than x reads -32,768 before and after; any other row is kept where it is not recomputed
+      same-yield : (v : ℕ) → v < n → T (not (eqb x v)) → T (not (recomputed G before (adding before x) v)) → netYield G (adding before x) v ≡ netYield G before v
+      unfolding netYield
+      same-yield v b other r = split (before v)
           (λ a. rw (true-of (before v) a))
-          (λ a. let t = free-adding before x v a (neqb x v other) in rw (false-of (adding before x v) t, false-of (before v) a) (sym (kept-followers G L before x v b t r)))
+          (λ a. let t = free-adding before x v a (neqb x v other) in rw (false-of (adding before x v) t, false-of (before v) a) (sym (kept-net G L before x v b t r)))
 
-      count-at : (v : ℕ) → v < n → T (not (eqb x v || redone-at i v)) → getD (record-at (i + 1) .followers) v 0 ≡ getD (record-at i .followers) v 0
-      count-at v b t =
+      yield-at : (v : ℕ) → v < n → T (not (eqb x v || redone-at i v)) → getD (record-at (i + 1) .yields) v (pos 0) ≡ getD (record-at i .yields) v (pos 0)
+      yield-at v b t =
           let again = redone-at i v in
           let other = not-T (eqb x v) (λ e. T-not (eqb x v || again) t (or-l (eqb x v) again e)) in
           let r = not-T again (λ e. T-not (eqb x v || again) t (or-r (eqb x v) again e)) in
-          tabulate-at (followerCount G (P (i + 1) .anchors)) n v b
-          ∙ ap (λ C. followerCount G C v) next-anchors
-          ∙ same-count v b other (subst (λ f. T (not (f v))) redone-is r)
-          ∙ sym (tabulate-at (followerCount G before) n v b)
+          tabulate-reads (netYield G (P (i + 1) .anchors)) (pos 0) n v b
+          ∙ ap (λ C. netYield G C v) next-anchors
+          ∙ same-yield v b other (subst (λ f. T (not (f v))) redone-is r)
+          ∙ sym (tabulate-reads (netYield G before) (pos 0) n v b)
 
       x-not-redone : T (not (redone-at i x))
       unfolding recomputed
@@ -253,9 +265,20 @@ module _ (s l given requests : List ℕ) (accepted : admitOf s l given ≡ Passe
         stamped = λ v b t. stamp-at v b ∙ rw (true-of (eqb x v || redone-at i v) t);
         counted = ap (λ r. r .redone) row ∙ ap (λ f. count f (below n)) (sym redone-is);
         uncounted = x-not-redone;
-        kept-followers = count-at;
+        kept-yields = yield-at;
         kept-stamps = λ v b t. stamp-at v b ∙ rw (false-of (eqb x v || redone-at i v) t);
       }
+
+    -- what it adds to the yields of the accepted requests
+    gain : cond (eqb (shown-at i .status) 0) (getD (record-at i .yields) x (pos 0)) (pos 0)
+        ≡ (let B = sessionOf s l given requests i .anchors in cond (eqb (statusOf G B x) 0) (net G B x) (pos 0))
+    gain =
+        let accepts = eqb (statusOf G before x) 0 in
+        ap (λ (k : ℕ). cond (eqb k 0) (getD (record-at i .yields) x (pos 0)) (pos 0)) shown-status
+        ∙ split accepts
+        (λ t. let free = eqb→eq (statusOf G before x) 0 t in rw (true-of accepts t) (yield-free i x (vertex free) (unanchored free)))
+        (λ t. rw (false-of accepts t))
+        ∙ ap (λ S. cond (eqb (statusOf G (S .anchors) x) 0) (net G (S .anchors) x) (pos 0)) (prefix i (omega arith))
 
     module _ (refusal : statusOf G before x ≡ 0 → ⊥) where
       same : P (i + 1) ≡ P i
@@ -272,7 +295,7 @@ module _ (s l given requests : List ℕ) (accepted : admitOf s l given ≡ Passe
         levels = ap (λ S. tabulate (level G (S .anchors)) n) same;
         layers = ap (λ S. tabulate (layer G (S .anchors)) n) same;
         components = ap (λ S. tabulate (component G (S .anchors)) n) same;
-        followers = ap (λ S. tabulate (followerCount G (S .anchors)) n) same;
+        yields = ap (λ S. tabulate (netYield G (S .anchors)) n) same;
         stamps = ap (λ S. tabulate (S .stamps) n) same;
       }
 
@@ -288,6 +311,22 @@ module _ (s l given requests : List ℕ) (accepted : admitOf s l given ≡ Passe
   start-stamps : record-at 0 .stamps ≡ tabulate (λ v. 0) n
   unfolding after
   start-stamps = refl
+
+  -- the yields of the accepted requests are the net yields of the plain session's
+  gains-are : (i : ℕ) → i ≤ m → gains s l given requests i ≡ gained G (anchoredBy given) requests i
+  unfolding gains gained
+  gains-are zero h = refl
+  gains-are (suc i) h = ap₂ _+ℤ_ (gains-are i (omega arith)) (gain i (omega arith))
+
+  climbs-start : climbs s l given requests 0 ≡ climbed G (anchoredBy given)
+  unfolding after
+  climbs-start = climbs-are 0
+
+  climbs-grow : (i : ℕ) → i ≤ m → pos (climbs s l given requests i) ≡ pos (climbs s l given requests 0) +ℤ gains s l given requests i
+  climbs-grow i h =
+      ap pos (climbs-are i ∙ ap (λ S. climbed G (S .anchors)) (prefix i h))
+      ∙ climbed-grows G L (anchoredBy given) requests i
+      ∙ ap₂ (λ (k : ℕ) (z : ℤ). pos k +ℤ z) (sym climbs-start) (sym (gains-are i h))
 
   module _ (few : m ≤ 4096) where
     prefix-run : (i : ℕ) → i ≤ m → (lent : Slices) → T (sized n i lent) → runOf s l given (take i requests) lent ≡ Passed
@@ -307,6 +346,7 @@ module _ (s l given requests : List ℕ) (accepted : admitOf s l given ≡ Passe
       status = λ i h. shown-status i h ∙ ap (λ C. statusOf G C (getD requests i 0)) (sym (set-is i));
       accepted = λ i h e. accepted-at i h (sym (shown-status i h) ∙ e);
       refused = λ i h e. refused-at i h (λ z. e (shown-status i h ∙ z));
+      grows = climbs-grow;
     }
 
 -- demand 3, of every call that is not refused as a whole

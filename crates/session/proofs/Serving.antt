@@ -16,7 +16,7 @@ use Rattle.table.specs.Guard.{refused}
 use Rattle.table.specs.declared.Guard.the-variants.{Passed}
 use Rattle.table.proofs.Guards.{both-passed, cleared}
 use Rattle.table.proofs.Laws.{went-on}
-use Rattle.anchored.specs.Followers.{followerCount}
+use Rattle.anchored.specs.Yield.{netYield}
 use Rattle.anchored.specs.Session.{Plain, after}
 use Rattle.pool.specs.Input.{graphOf, admitOf}
 use Rattle.pool.specs.Arrays.{Holds}
@@ -24,8 +24,10 @@ use Rattle.pool.proofs.Laws.{admitted}
 use Rattle.pool.proofs.Lengths.{passed, each}
 use Rattle.stale.specs.Columns.{ColumnsOf}
 use Rattle.records.specs.Record.{Keeps, sessionOf}
+use Rattle.records.specs.Yield.{yieldAt}
 use Rattle.step.specs.Turn.{rowAs, Turned}
 use Rattle.records.specs.declared.Record.{Record}
+use Rattle.records.proofs.Nets.{right-yield}
 use Rattle.step.specs.declared.Stepped.{Stepped}
 use Rattle.step.proofs.Steps.{stands-row, stands-more}
 use Rattle.session.specs.Run.{Slices, records, numbers, sized, admitRun, runOf, Ready, rowAt}
@@ -81,9 +83,9 @@ module _ {s l given requests status₀ lifted₀ redone₀ status lifted redone 
 
 -- ---- the end
 
--- a slice that an array is copied into has what the array holds
-pub copied-out : (f : ℕ → ℕ) (xs new : List ℕ) (k n : ℕ) → new ≡ tabulate (λ v. getD xs v 0) k → k ≡ n → Holds xs n f → new ≡ tabulate f n
-copied-out f xs new k n copied e holds = copied ∙ ap (tabulate (λ v. getD xs v 0)) e ∙ tabulate-cong (λ v. getD xs v 0) f n holds
+-- a slice that is filled from a record has what the record holds
+pub copied-out : {X : Type 0} (f g : ℕ → X) (new : List X) (k n : ℕ) → new ≡ tabulate g k → k ≡ n → ((v : ℕ) → v < n → g v ≡ f v) → new ≡ tabulate f n
+copied-out f g new k n copied e same = copied ∙ ap (tabulate g) e ∙ tabulate-cong g f n same
 
 module _ {s l : List ℕ} {kept : Record} {S : Plain} (keeps : Keeps s l kept S) where
   -- the record at the end, in the words of the plain session
@@ -93,8 +95,8 @@ module _ {s l : List ℕ} {kept : Record} {S : Plain} (keeps : Keeps s l kept S)
   pub end-columns : ColumnsOf (graphOf s l) (S .anchors) (kept .columns)
   end-columns = subst (λ A. ColumnsOf (graphOf s l) A (kept .columns)) (keeps .stands .anchors) (keeps .right .columns)
 
-  pub end-counts : Holds (kept .followers) (vertices s) (followerCount (graphOf s l) (S .anchors))
-  end-counts = subst (λ A. Holds (kept .followers) (vertices s) (followerCount (graphOf s l) A)) (keeps .stands .anchors) (keeps .right .counts)
+  pub end-yields : (v : ℕ) → v < vertices s → yieldAt kept v ≡ netYield (graphOf s l) (S .anchors) v
+  end-yields v h = subst (λ A. yieldAt kept v ≡ netYield (graphOf s l) A v) (keeps .stands .anchors) (right-yield (keeps .right) v h)
 
 -- ---- the answer
 
@@ -142,7 +144,7 @@ module _ (s l given requests : List ℕ) (x : Slices) where
         levels-long = record-long _ (inr (inl refl));
         layers-long = record-long _ (inr (inr (inl refl)));
         components-long = record-long _ (inr (inr (inr (inl refl))));
-        followers-long = record-long _ (inr (inr (inr (inr (inl refl)))));
+        yields-long = record-long _ (inr (inr (inr (inr (inl refl)))));
         stamps-long = record-long _ (inr (inr (inr (inr (inr (inl refl))))));
         status-long = number-long _ (inl refl);
         lifted-long = number-long _ (inr (inl refl));

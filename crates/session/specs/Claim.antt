@@ -1,17 +1,19 @@
 -- Demand 3 of document 01: one claim about the whole list of requests (names), over the records that the calls on its prefixes leave.
 use mathlib.Core.Path.{_≡_}
-use mathlib.Core.Bool.{Bool, not, _||_}
+use mathlib.Core.Bool.{Bool, not, cond, _||_}
 use mathlib.Core.List.{List}
-use Prim.Native.Nat.{ℕ, _+_, _≤_, _<_}
+use Prim.Native.Nat.{ℕ, zero, suc, _+_, _-_, _≤_, _<_}
 use lib.ListN.{length, take, getD}
+use lib.IntN.{ℤ, pos, _+ℤ_, _-ℤ_}
 use lib.Dec.{T, eqb}
-use Rattle.finite.specs.Count.{bit, tabulate, count, below}
+use Rattle.finite.specs.Count.{bit, tabulate, count, sum, below}
 use Rattle.table.specs.Table.{vertices}
 use Rattle.table.specs.declared.Guard.the-variants.{Passed}
 use Rattle.anchored.specs.Graph.{Graph}
 use Rattle.anchored.specs.Core.{level, layer}
 use Rattle.anchored.specs.Component.{component}
-use Rattle.anchored.specs.Followers.{adding, reached}
+use Rattle.anchored.specs.Followers.{adding, followers, reached}
+use Rattle.anchored.specs.Yield.{least, bareLevel}
 use Rattle.anchored.specs.Step.{recomputed}
 use Rattle.anchored.specs.Session.{Row, statusOf}
 use Rattle.pool.specs.Input.{graphOf, anchoredBy, admitOf}
@@ -51,15 +53,25 @@ module _ (s l given requests : List ℕ) where
   abbrev pub shown : ℕ → Row
   shown i = let end = ended s l given requests in record { status = getD (end .status) i 0; lifted = getD (end .lifted) i 0; redone = getD (end .redone) i 0 }
 
+  -- the climbs of the vertices that are not anchored in that record, together
+  abbrev pub climbs : ℕ → ℕ
+  climbs i = sum (λ v. cond (set i v) 0 (getD (upto i .levels) v 0 - bareLevel G v)) (below n)
+
+  -- the yields of the accepted ones among the first i requests, each as it stood just before its step, together
+  unfoldable pub gains : ℕ → ℤ
+  gains zero = pos 0
+  gains (suc i) = gains i +ℤ cond (eqb (shown i .status) 0) (getD (upto i .yields) (getD requests i 0) (pos 0)) (pos 0)
+
   -- the record after i requests is the one worked out afresh from its bytes
   pub record Fresh (i : ℕ) : Type 0 where
     pub admitted : admitOf s l (upto i .anchored) ≡ Passed
     pub levels : upto i .levels ≡ tabulate (level G (set i)) n
     pub layers : upto i .layers ≡ tabulate (layer G (set i)) n
     pub components : upto i .components ≡ tabulate (component G (set i)) n
-    -- the follower count (yield) of an anchored vertex reads 65,535, any other is what the search answers
-    pub anchored : (v : ℕ) → v < n → T (set i v) → getD (upto i .followers) v 0 ≡ 65535
-    pub followers : (v : ℕ) → v < n → T (not (set i v)) → searched i v ≡ Found (getD (upto i .followers) v 0) (reached G (set i) v)
+    -- the (net) yield of an anchored vertex reads -32,768, any other is what the search answers less the level above the bare one
+    pub anchored : (v : ℕ) → v < n → T (set i v) → getD (upto i .yields) v (pos 0) ≡ least
+    pub search : (v : ℕ) → v < n → T (not (set i v)) → searched i v ≡ Found (followers G (set i) v) (reached G (set i) v)
+    pub yields : (v : ℕ) → v < n → T (not (set i v)) → getD (upto i .yields) v (pos 0) ≡ pos (followers G (set i) v) -ℤ pos (getD (upto i .levels) v 0 - bareLevel G v)
 
   -- its bytes and stamps are the plain session's
   pub record Plainly (i : ℕ) : Type 0 where
@@ -78,8 +90,8 @@ module _ (s l given requests : List ℕ) where
     pub stamped : (v : ℕ) → v < n → T (eqb x v || redone i v) → getD (upto (i + 1) .stamps) v 0 ≡ i + 1
     pub counted : shown i .redone ≡ count (redone i) (below n)
     pub uncounted : T (not (redone i x))
-    -- every other row keeps its follower count and its stamp
-    pub kept-followers : (v : ℕ) → v < n → T (not (eqb x v || redone i v)) → getD (upto (i + 1) .followers) v 0 ≡ getD (upto i .followers) v 0
+    -- every other row keeps its yield and its stamp
+    pub kept-yields : (v : ℕ) → v < n → T (not (eqb x v || redone i v)) → getD (upto (i + 1) .yields) v (pos 0) ≡ getD (upto i .yields) v (pos 0)
     pub kept-stamps : (v : ℕ) → v < n → T (not (eqb x v || redone i v)) → getD (upto (i + 1) .stamps) v 0 ≡ getD (upto i .stamps) v 0
 
   -- request i is refused: it shows 0 and 0, and no record changes
@@ -90,7 +102,7 @@ module _ (s l given requests : List ℕ) where
     pub levels : upto (i + 1) .levels ≡ upto i .levels
     pub layers : upto (i + 1) .layers ≡ upto i .layers
     pub components : upto (i + 1) .components ≡ upto i .components
-    pub followers : upto (i + 1) .followers ≡ upto i .followers
+    pub yields : upto (i + 1) .yields ≡ upto i .yields
     pub stamps : upto (i + 1) .stamps ≡ upto i .stamps
 
   -- the claim
@@ -110,3 +122,5 @@ module _ (s l given requests : List ℕ) where
     pub status : (i : ℕ) → i < length requests → shown i .status ≡ statusOf G (set i) (getD requests i 0)
     pub accepted : (i : ℕ) → i < length requests → shown i .status ≡ 0 → Accepts i (getD requests i 0)
     pub refused : (i : ℕ) → i < length requests → (shown i .status ≡ 0 → ⊥) → Refuses i
+    -- the climbs grow by the yields of the accepted requests
+    pub grows : (i : ℕ) → i ≤ length requests → pos (climbs i) ≡ pos (climbs 0) +ℤ gains i

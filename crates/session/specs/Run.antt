@@ -4,6 +4,7 @@ use mathlib.Core.Bool.{Bool, cond, _&&_}
 use mathlib.Core.List.{List, [], _∷_}
 use Prim.Native.Nat.{ℕ, _≤_}
 use lib.ListN.{length, getD}
+use lib.IntN.{ℤ}
 use lib.Dec.{ltb, eqb}
 use Rattle.finite.specs.Count.{bit, tabulate}
 use Rattle.finite.specs.Search.{all}
@@ -13,7 +14,7 @@ use Rattle.table.specs.declared.Guard.{Guard}
 use Rattle.table.specs.declared.Guard.the-variants.{Passed}
 use Rattle.anchored.specs.Core.{level, layer}
 use Rattle.anchored.specs.Component.{component}
-use Rattle.anchored.specs.Followers.{followerCount}
+use Rattle.anchored.specs.Yield.{netYield}
 use Rattle.anchored.specs.Session.{Row, rowOf}
 use Rattle.pool.specs.Input.{graphOf, admitOf, Admitted}
 use Rattle.records.specs.Record.{sessionOf}
@@ -24,18 +25,18 @@ pub record Slices : Type 0 where
   pub levels : List ℕ
   pub layers : List ℕ
   pub components : List ℕ
-  pub followers : List ℕ
+  pub yields : List ℤ
   pub stamps : List ℕ
   pub status : List ℕ
   pub lifted : List ℕ
   pub redone : List ℕ
 
-abbrev pub slices : List ℕ → List ℕ → List ℕ → List ℕ → List ℕ → List ℕ → List ℕ → List ℕ → List ℕ → Slices
-slices a k l c f t s u r = record { anchored = a; levels = k; layers = l; components = c; followers = f; stamps = t; status = s; lifted = u; redone = r }
+abbrev pub slices : List ℕ → List ℕ → List ℕ → List ℕ → List ℤ → List ℕ → List ℕ → List ℕ → List ℕ → Slices
+slices a k l c y t s u r = record { anchored = a; levels = k; layers = l; components = c; yields = y; stamps = t; status = s; lifted = u; redone = r }
 
 -- the lengths of the record's slices, and of those with a number for each request
 abbrev pub records : Slices → List ℕ
-records x = length (x .anchored) ∷ length (x .levels) ∷ length (x .layers) ∷ length (x .components) ∷ length (x .followers) ∷ length (x .stamps) ∷ []
+records x = length (x .anchored) ∷ length (x .levels) ∷ length (x .layers) ∷ length (x .components) ∷ length (x .yields) ∷ length (x .stamps) ∷ []
 
 abbrev pub numbers : Slices → List ℕ
 numbers x = length (x .status) ∷ length (x .lifted) ∷ length (x .redone) ∷ []
@@ -61,7 +62,7 @@ pub record Ready (s l given requests : List ℕ) (x : Slices) : Type 0 where
   pub levels-long : length (x .levels) ≡ vertices s
   pub layers-long : length (x .layers) ≡ vertices s
   pub components-long : length (x .components) ≡ vertices s
-  pub followers-long : length (x .followers) ≡ vertices s
+  pub yields-long : length (x .yields) ≡ vertices s
   pub stamps-long : length (x .stamps) ≡ vertices s
   pub status-long : length (x .status) ≡ length requests
   pub lifted-long : length (x .lifted) ≡ length requests
@@ -80,7 +81,7 @@ ended s l given requests =
     (tabulate (level (graphOf s l) (end .anchors)) (vertices s))
     (tabulate (layer (graphOf s l) (end .anchors)) (vertices s))
     (tabulate (component (graphOf s l) (end .anchors)) (vertices s))
-    (tabulate (followerCount (graphOf s l) (end .anchors)) (vertices s))
+    (tabulate (netYield (graphOf s l) (end .anchors)) (vertices s))
     (tabulate (end .stamps) (vertices s))
     (tabulate (λ i. rowAt s l given requests i .status) (length requests))
     (tabulate (λ i. rowAt s l given requests i .lifted) (length requests))

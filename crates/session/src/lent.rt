@@ -4,6 +4,7 @@ ghost use Prim.Native.Nat.{_≤_};
 ghost use lib.ListN.{length, getD};
 ghost use Rattle.finite.specs.Count.{tabulate};
 ghost use Rattle.finite.specs.Moments.{old, final};
+ghost use Rattle.records.specs.Yield.{yieldAt, Smalls};
 use records::Record;
 
 // Copies the sheet of a record out.
@@ -22,17 +23,17 @@ pub fn copy_sheet(kept: Record, levels: &mut [u16], layers: &mut [u16], componen
     pool::lent::copy(&component, components);
 }
 
-// Copies its anchored bytes, follower counts and stamps out.
-pub fn copy_rows(kept: Record, anchored: &mut [u8], followers: &mut [u16], stamps: &mut [u16])
-    requires { ⌜ (length (now anchored) ≤ 1024) × (length (now followers) ≤ 1024) × (length (now stamps) ≤ 1024) ⌝ }
+// Copies its anchored bytes and stamps out, and writes its net yields.
+pub fn copy_rows(kept: Record, anchored: &mut [u8], yields: &mut [i16], stamps: &mut [u16])
+    requires { ⌜ (length (now anchored) ≤ 1024) × (length (now yields) ≤ 1024) × (length (now stamps) ≤ 1024) ⌝ }
+    requires { ⌜ Smalls kept (length (now yields)) ⌝ }
     ensures anchored { λ _. ⌜ final anchored ≡ tabulate (λ v. getD (kept .anchored) v 0) (length (old anchored)) ⌝ }
-    ensures followers { λ _. ⌜ final followers ≡ tabulate (λ v. getD (kept .followers) v 0) (length (old followers)) ⌝ }
+    ensures yields { λ _. ⌜ final yields ≡ tabulate (yieldAt kept) (length (old yields)) ⌝ }
     ensures stamps { λ _. ⌜ final stamps ≡ tabulate (λ v. getD (kept .stamp) v 0) (length (old stamps)) ⌝ }
 {
     let bytes = kept.anchored;
-    let counts = kept.followers;
     let stamp = kept.stamp;
     pool::lent::copy_bytes(&bytes, anchored);
-    pool::lent::copy(&counts, followers);
+    records::yields::write_yields(kept, yields);
     pool::lent::copy(&stamp, stamps);
 }

@@ -67,21 +67,21 @@ fn write(
     levels: &mut [u16],
     layers: &mut [u16],
     components: &mut [u16],
-    followers: &mut [u16],
+    yields: &mut [i16],
     stamps: &mut [u16],
     status: &mut [u16],
     lifted: &mut [u16],
     redone: &mut [u16],
 )
-    requires { let lent = slices (now anchored) (now levels) (now layers) (now components) (now followers) (now stamps) (now status) (now lifted) (now redone) in
+    requires { let lent = slices (now anchored) (now levels) (now layers) (now components) (now yields) (now stamps) (now status) (now lifted) (now redone) in
         ⌜ Ready (now starts) (now links) (now given) (now requests) lent ⌝ }
     ensures { λ _.
-        let after = slices (final anchored) (final levels) (final layers) (final components) (final followers) (final stamps) (final status) (final lifted) (final redone) in
+        let after = slices (final anchored) (final levels) (final layers) (final components) (final yields) (final stamps) (final status) (final lifted) (final redone) in
         ⌜ after ≡ ended (old starts) (old links) (old given) (old requests) ⌝ }
 {
     let kept = serve(starts, links, given, requests, status, lifted, redone);
     super::lent::copy_sheet(kept, levels, layers, components);
-    super::lent::copy_rows(kept, anchored, followers, stamps);
+    super::lent::copy_rows(kept, anchored, yields, stamps);
 }
 
 // Refusals 1 to 12, or `Passed`: `records` and `numbers` are the lengths of the lent slices, to be n and `count`, the number of requests.
@@ -126,15 +126,15 @@ pub fn run(
     levels: &mut [u16],
     layers: &mut [u16],
     components: &mut [u16],
-    followers: &mut [u16],
+    yields: &mut [i16],
     stamps: &mut [u16],
     status: &mut [u16],
     lifted: &mut [u16],
     redone: &mut [u16],
 ) -> Ran
     ensures { λ r.
-        let lent = slices (old anchored) (old levels) (old layers) (old components) (old followers) (old stamps) (old status) (old lifted) (old redone) in
-        let after = slices (final anchored) (final levels) (final layers) (final components) (final followers) (final stamps) (final status) (final lifted) (final redone) in
+        let lent = slices (old anchored) (old levels) (old layers) (old components) (old yields) (old stamps) (old status) (old lifted) (old redone) in
+        let after = slices (final anchored) (final levels) (final layers) (final components) (final yields) (final stamps) (final status) (final lifted) (final redone) in
         let guard = runOf (old starts) (old links) (old given) (old requests) lent in
         ⌜ (r ≡ answer guard Served Refused) × (after ≡ held guard (ended (old starts) (old links) (old given) (old requests)) lent) ⌝ }
     ensures claim { λ r. ⌜ (r ≡ Served → Claim (old starts) (old links) (old given) (old requests)) ⌝ }
@@ -144,7 +144,7 @@ pub fn run(
         levels.len(),
         layers.len(),
         components.len(),
-        followers.len(),
+        yields.len(),
         stamps.len(),
     ];
     let numbers = [status.len(), lifted.len(), redone.len()];
@@ -161,7 +161,7 @@ pub fn run(
                 levels,
                 layers,
                 components,
-                followers,
+                yields,
                 stamps,
                 status,
                 lifted,

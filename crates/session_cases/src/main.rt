@@ -2,7 +2,11 @@
 // slices are parts of arrays of 7s; of each but the anchored bytes the first eight places are printed.
 ghost use Prim.Native.Nat.{_≤_};
 ghost use lib.ListN.{length};
+use cases::print::number;
+use cases::print::row;
 use cases::print::rows;
+use cases::print::text;
+use libc::STDOUT_FILENO;
 use session::run::Ran;
 
 fn print_ran(name: &[u8], answer: Ran) {
@@ -10,6 +14,27 @@ fn print_ran(name: &[u8], answer: Ran) {
         Ran::Served => cases::print::sound(name, b""),
         Ran::Refused(refusal) => cases::print::refusal(name, b"", refusal),
     }
+}
+
+// ` NUMBER`, with its sign where it is below 0.
+fn print_yield(value: i16) {
+    if value < 0 {
+        text(b" -");
+        io::print_decimal(STDOUT_FILENO, (0 - value as i64) as u64);
+        return;
+    }
+    number(value as usize);
+}
+
+fn print_yields(name: &[u8], yields: &[i16]) {
+    text(name);
+    text(b" yields");
+    let mut i: usize = 0;
+    while i < yields.len() {
+        print_yield(yields[i]);
+        i += 1;
+    }
+    text(b"\n");
 }
 
 fn run(name: &[u8], starts: &[u16], links: &[u16], given: &[u8], names: &[u16])
@@ -22,7 +47,7 @@ fn run(name: &[u8], starts: &[u16], links: &[u16], given: &[u8], names: &[u16])
     let mut levels = [7u16; 4];
     let mut layers = [7u16; 4];
     let mut components = [7u16; 4];
-    let mut followers = [7u16; 4];
+    let mut yields = [7i16; 4];
     let mut stamps = [7u16; 4];
     let mut status = [7u16; 4097];
     let mut lifted = [7u16; 4097];
@@ -36,7 +61,7 @@ fn run(name: &[u8], starts: &[u16], links: &[u16], given: &[u8], names: &[u16])
         &mut levels[..n],
         &mut layers[..n],
         &mut components[..n],
-        &mut followers[..n],
+        &mut yields[..n],
         &mut stamps[..n],
         &mut status[..m],
         &mut lifted[..m],
@@ -45,13 +70,9 @@ fn run(name: &[u8], starts: &[u16], links: &[u16], given: &[u8], names: &[u16])
     print_ran(name, answer);
     rows(name, b" requests: status: lifted", names, &status, &lifted);
     rows(name, b" redone: stamps: levels", &redone, &stamps, &levels);
-    rows(
-        name,
-        b" layers: components: followers",
-        &layers,
-        &components,
-        &followers,
-    );
+    row(name, b" layers", &layers);
+    row(name, b" components", &components);
+    print_yields(name, &yields);
 }
 
 fn run_limits() {

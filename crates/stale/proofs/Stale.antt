@@ -1,6 +1,6 @@
 -- The marks that the passes of a step leave are the recomputed rows. Assumes nothing.
 use mathlib.Core.Path.{_≡_, refl, sym, ap, ap₂, _∙_}
-use mathlib.Core.Bool.{Bool, true, false, not, _&&_, _||_, or-true, and-true, and-false}
+use mathlib.Core.Bool.{Bool, true, false, not, _&&_, _||_, or-true, or-comm, or-assoc, and-true, and-false}
 use mathlib.Core.List.{List}
 use Prim.Native.Nat.{ℕ, _≤_, _<_}
 use native.Mathlib.Omega.{arith}
@@ -16,7 +16,7 @@ use Rattle.finite.proofs.Search.{any-i, any-e, any-none, any-cong}
 use Rattle.anchored.specs.Graph.{Graph, Simple}
 use Rattle.anchored.specs.Core.{level, layer, greater, higher}
 use Rattle.anchored.specs.Component.{component}
-use Rattle.anchored.specs.Step.{above, recomputed}
+use Rattle.anchored.specs.Step.{above, moved, recomputed}
 use Rattle.anchored.specs.Changed.{steady, changed}
 use Rattle.anchored.proofs.Core.{level-lt, level-anchored}
 use Rattle.anchored.proofs.Changed.{component-anchored, component-lt, recomputed-changed}
@@ -191,7 +191,8 @@ module _ {s l : List ℕ} (table : SoundTable s l) {A B : ℕ → Bool} {x y : C
     (compared : (v : ℕ) → marked unsteadies v
     ≡ upTo (differs (x .level) (y .level)) (vertices s) v || upTo (differs (x .component) (y .component)) (vertices s) v || upTo (differs (x .above) (y .above)) (vertices s) v)
     (numbered : (c : ℕ) → marked changes c ≡ upTo (carried (x .component) unsteadies (vertices s)) 1024 c || upTo (carried (y .component) unsteadies (vertices s)) 1024 c)
-    (looked : (u : ℕ) → marked stales u ≡ upTo (looking s l x changes) (vertices s) u || upTo (looking s l y changes) (vertices s) u) where
+    (looked : (u : ℕ) → marked stales u
+    ≡ upTo (differs (x .level) (y .level)) (vertices s) u || upTo (looking s l x changes) (vertices s) u || upTo (looking s l y changes) (vertices s) u) where
   -- the numbers that are marked are those that changed
   changes-changed : (c : ℕ) → c < vertices s → marked changes c ≡ changed (graphOf s l) A B c
   changes-changed c h =
@@ -207,13 +208,25 @@ module _ {s l : List ℕ} (table : SoundTable s l) {A B : ℕ → Bool} {x y : C
       ap (λ z. z && eqb (getD xs v 0) c) e) in
       numbered c ∙ ap₂ _||_ (carries (x .component)) (carries (y .component)) ∙ sym (changed-carried G (simple table) small before later c h)
 
+  -- the levels that differ are those that changed
+  differs-moved : (u : ℕ) → u < vertices s → upTo (differs (x .level) (y .level)) (vertices s) u ≡ moved (graphOf s l) A B u
+  unfolding moved
+  differs-moved u h = upTo-below (differs (x .level) (y .level)) (vertices s) u h ∙ rw (before .levels u h, later .levels u h)
+
   -- the rows of a step that are recomputed are the stale ones, and not anchored
   stale-recomputed : (u : ℕ) → u < vertices s → recomputed (graphOf s l) A B u ≡ not (B u) && marked stales u
   stale-recomputed u h =
       let G = graphOf s l in
-      recomputed-changed G (simple table) (omega (arith, table .small)) A B u h ∙ ap (λ z. not (B u) && z) (sym (looked u ∙ ap₂ _||_
-      (upTo-below (looking s l x changes) (vertices s) u h ∙ looks-means table before changes changes-changed u h)
-      (upTo-below (looking s l y changes) (vertices s) u h ∙ looks-means table later changes changes-changed u h)))
+      let by-level = upTo (differs (x .level) (y .level)) (vertices s) in
+      let before-step = upTo (looking s l x changes) (vertices s) in
+      let after-step = upTo (looking s l y changes) (vertices s) in
+      let looks-before = upTo-below (looking s l x changes) (vertices s) u h ∙ looks-means table before changes changes-changed u h in
+      let looks-after = upTo-below (looking s l y changes) (vertices s) u h ∙ looks-means table later changes changes-changed u h in
+      recomputed-changed G (simple table) (omega (arith, table .small)) A B u h ∙ ap (λ z. not (B u) && z)
+      (sym (looked u ∙ last-first (by-level u) (before-step u) (after-step u) ∙ ap₂ _||_ (ap₂ _||_ looks-before looks-after) (differs-moved u h)))
+    where
+      last-first : (a b c : Bool) → a || b || c ≡ b || c || a
+      last-first a b c = ap (λ z. z || c) (or-comm a b) ∙ or-assoc b a c ∙ ap (λ z. b || z) (or-comm a c) ∙ sym (or-assoc b c a)
 
 -- so the passes of a step, one after the other, find its rows
 module _ {s l : List ℕ} (table : SoundTable s l) (x y : Columns) where
@@ -221,7 +234,7 @@ module _ {s l : List ℕ} (table : SoundTable s l) (x y : Columns) where
       → Added (upTo (differs (x .level) (y .level)) (vertices s)) (replicate 1024 0) by-level → Added (upTo (differs (x .component) (y .component)) (vertices s)) by-level by-number
       → Added (upTo (differs (x .above) (y .above)) (vertices s)) by-number unsteadies
       → Added (upTo (carried (x .component) unsteadies (vertices s)) 1024) (replicate 1024 0) old-numbers → Added (upTo (carried (y .component) unsteadies (vertices s)) 1024) old-numbers changes
-      → Added (upTo (looking s l x changes) (vertices s)) (replicate 1024 0) old-lookers → Added (upTo (looking s l y changes) (vertices s)) old-lookers stales
+      → Added (upTo (looking s l x changes) (vertices s)) by-level old-lookers → Added (upTo (looking s l y changes) (vertices s)) old-lookers stales
       → Finds s l x y stales
   passes-find {unsteadies = unsteadies} {changes = changes} {stales = stales} levels numbers aboves carriers carriers′ lookers lookers′ A B before later =
-      stale-recomputed table before later unsteadies changes stales (adds-three levels numbers aboves) (adds-two carriers carriers′) (adds-two lookers lookers′)
+      stale-recomputed table before later unsteadies changes stales (adds-three levels numbers aboves) (adds-two carriers carriers′) (adds-three levels lookers lookers′)

@@ -171,7 +171,7 @@ fn mark_lookers(
     }
 }
 
-// The rows that a step makes stale, from the columns before it and after it.
+// The rows that a step makes stale, from the columns before it and after it: of changed level, or looking into a changed component.
 pub fn mark_stale(
     starts: &[u16],
     links: &[u16],
@@ -191,14 +191,14 @@ pub fn mark_stale(
     let layer = after.layer;
     let component = after.component;
     let above = after.above;
-    let mut unsteady = [0u8; 1024];
-    mark_differing(n, &old_level, &level, &mut unsteady);
+    *stale = [0; 1024];
+    mark_differing(n, &old_level, &level, stale);
+    let mut unsteady = *stale;
     mark_differing(n, &old_component, &component, &mut unsteady);
     mark_differing(n, &old_above, &above, &mut unsteady);
     let mut changed = [0u8; 1024];
     mark_numbers(n, &old_component, &unsteady, &mut changed);
     mark_numbers(n, &component, &unsteady, &mut changed);
-    *stale = [0; 1024];
     mark_lookers(
         starts,
         links,

@@ -29,6 +29,7 @@ use Rattle.records.specs.Record.{Right, plainOf, Stands}
 use Rattle.step.specs.Turn.{rowAs, Turned}
 use Rattle.step.specs.Rows.{staleBy, Renewed, Redone}
 use Rattle.records.specs.declared.Record.{Record}
+use Rattle.records.proofs.Nets.{right-count}
 
 -- ---- bytes
 
@@ -164,7 +165,7 @@ module _ {s l : List ℕ} {kept : Record} (right : Right s l kept) (x : ℕ) (bx
         set-reads folNow x 65535 v (λ e. omega (arith, r .counts-long, right .counts-long))
         ∙ ap (cond (eqb x v) 65535) (renewed-all (recomputed G A (adding A x)) (followers G (adding A x)) (kept .followers) folNow (vertices s) counts v h)
         ∙ ap (λ z. cond (eqb x v) 65535 (cond (recomputed G A (adding A x) v) (followers G (adding A x) v) z)) (right .counts v h)
-        ∙ renewed-fresh G A x (followers G) v (λ t k. kept-followers G (simple (right .admitted .table)) A x v h t k)
+        ∙ renewed-fresh 65535 G A x (followers G) v (λ t k. kept-followers G (simple (right .admitted .table)) A x v h t k)
 
     -- with 65,535 put at x the follower counts are right
     counts-after : Holds (set folNow x 65535) (vertices s) (followerCount G (anchoredBy bytes))
@@ -193,22 +194,19 @@ module _ {s l : List ℕ} {kept : Record} (right : Right s l kept) (x : ℕ) (bx
         ∙ ap (λ (n : ℕ). record { status = 0; lifted = followers G A x; redone = n }) (ap (λ B. count (recomputed G A B) (below (vertices s))) (sym bytes-after) ∙ sym (r .number))
 
     -- the count that the record has for x is the number lifted
-    counted : getD (kept .followers) x 0 ≡ followers G A x
-    unfolding followerCount
-    counted = right .counts x bx ∙ ap (λ b. cond b 65535 (followers G A x)) (false-of (A x) free)
-
     row-counted : rowAs (record { status = 0; lifted = getD (kept .followers) x 0; redone = redone }) ≡ rowOf G S x
-    row-counted = ap (λ (n : ℕ). rowAs (record { status = 0; lifted = n; redone = redone })) counted ∙ sym row-after
+    row-counted = ap (λ (n : ℕ). rowAs (record { status = 0; lifted = n; redone = redone })) (right-count right x bx free) ∙ sym row-after
 
     -- so the fresh columns and these rows are one turn of the plain session
     pub turned : {columns : Columns} → Admitted s l bytes → ColumnsOf G (anchoredBy bytes) columns → Turned s l position x kept (record {
-      kept = record { anchored = bytes; columns = columns; followers = set folNow x 65535; stamp = set stNow x position };
+      kept = record { anchored = bytes; columns = columns; bare = kept .bare; followers = set folNow x 65535; stamp = set stNow x position };
       row = record { status = 0; lifted = getD (kept .followers) x 0; redone = redone };
     })
     turned admits defined = record {
       right = record {
         admitted = admits;
         columns = defined;
+        bares = right .bares;
         counts = counts-after;
         counts-long = omega (arith, length-set folNow x 65535, r .counts-long, right .counts-long);
         stamps-long = omega (arith, length-set stNow x position, r .stamps-long, right .stamps-long);

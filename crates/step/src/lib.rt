@@ -85,6 +85,7 @@ fn accept(starts: &[u16], links: &[u16], kept: Record, x: usize, position: u16) 
     requires { ⌜ getD (kept .anchored) x 0 ≡ 0 ⌝ }
     ensures { λ r. ⌜ Turned (old starts) (old links) position x kept r ⌝ }
 {
+    let bare = kept.bare;
     let mut anchored = kept.anchored;
     anchored[x] = 1;
     let columns = records::afresh::refresh(starts, links, &anchored);
@@ -109,6 +110,7 @@ fn accept(starts: &[u16], links: &[u16], kept: Record, x: usize, position: u16) 
         kept: Record {
             anchored,
             columns,
+            bare,
             followers,
             stamp,
         },

@@ -186,7 +186,7 @@ pub fn search(seeds: &[u64]) -> Vec<Line> {
     for &seed in seeds {
         let pools = several(seed);
         let (mut marks, mut record, mut again) = (vec![0u8; 1000], Record::room(1000, 0), Sheet::room(1000));
-        let (sheets, mut counts) = (worked(&pools), vec![]);
+        let (sheets, mut yields, none) = (worked(&pools), vec![], vec![false; 1000]);
         let [fresh, searches, start, cores] = times(
             3,
             1,
@@ -200,11 +200,15 @@ pub fn search(seeds: &[u64]) -> Vec<Line> {
                     }
                 },
                 &mut || pools.iter().for_each(|pool| planner::run(input(pool), &[], &mut record).unwrap()),
-                &mut || pools.iter().for_each(|pool| counts = quick::follower_counts(plain(pool), &vec![false; 1000])),
+                &mut || {
+                    for pool in pools.iter().map(plain) {
+                        yields = quick::net_yields(pool, &none, &quick::bare_levels(pool));
+                    }
+                },
             ],
         )
         .map(|pass| pass / POOLS as f64);
-        assert_eq!(record.followers, counts);
+        assert_eq!(record.yields, yields);
         let alone = (start - fresh) / 1000.0;
         lines[0].times.push((searches / 1000.0, fresh));
         lines[1].times.push((alone, fresh));
@@ -283,21 +287,21 @@ pub fn collapse(seeds: &[u64]) -> Vec<Line> {
     lines.into()
 }
 
-/// Every row afresh: the sheet, and a working of all levels for each vertex not anchored.
-fn fresh_rows(pool: &Pool, set: &[bool]) -> Vec<u16> {
+/// Every row afresh: the sheet, and a working of all levels for each vertex not anchored. The net yields.
+fn fresh_rows(pool: &Pool, set: &[bool], bare: &[u16]) -> Vec<i16> {
     black_box(quick::sheet(plain(pool), set));
-    quick::follower_counts(plain(pool), set)
+    quick::net_yields(plain(pool), set, bare)
 }
 
-/// A session by fresh rows at the start and after each name; the follower counts at the end.
-fn fresh_session(pool: &Pool, names: &[u16]) -> Vec<u16> {
-    let mut set = vec![false; pool.size()];
-    let mut counts = fresh_rows(pool, &set);
+/// A session by bare levels once, and fresh rows at the start and after each name; the net yields at the end.
+fn fresh_session(pool: &Pool, names: &[u16]) -> Vec<i16> {
+    let (mut set, bare) = (vec![false; pool.size()], quick::bare_levels(plain(pool)));
+    let mut yields = fresh_rows(pool, &set, &bare);
     for &x in names {
         set[x as usize] = true;
-        counts = fresh_rows(pool, &set);
+        yields = fresh_rows(pool, &set, &bare);
     }
-    counts
+    yields
 }
 
 /// The plain side serves this many names of a session, and works the rows after each 50th: all of them would take minutes.
@@ -315,26 +319,26 @@ pub fn session(seeds: &[u64]) -> Vec<Line> {
         let mut names: Vec<u16> = (0..1024).collect();
         random.shuffle(&mut names);
         names.truncate(1000);
-        let (mut record, mut whole, mut counts) = (Record::room(1024, FEW), Record::room(1024, 1000), vec![]);
+        let (mut record, mut whole, mut yields) = (Record::room(1024, FEW), Record::room(1024, 1000), vec![]);
         let few = times(
             3,
             1,
             [
                 &mut || planner::run(input(&pool), &names[..FEW], &mut record).unwrap(),
-                &mut || counts = fresh_session(&pool, &names[..FEW]),
+                &mut || yields = fresh_session(&pool, &names[..FEW]),
             ],
         );
-        assert_eq!(record.followers, counts);
+        assert_eq!(record.yields, yields);
         let all = time(&mut || planner::run(input(&pool), &names, &mut whole).unwrap());
         assert!(whole.status.iter().all(|&status| status == 0));
-        let (mut set, mut sampled) = (vec![false; 1024], vec![]);
+        let (mut set, mut sampled, bare) = (vec![false; 1024], vec![], quick::bare_levels(plain(&pool)));
         for (i, &x) in names.iter().enumerate() {
             set[x as usize] = true;
             if i % 50 == 49 {
-                sampled.push(time(&mut || counts = fresh_rows(&pool, &set)));
+                sampled.push(time(&mut || yields = fresh_rows(&pool, &set, &bare)));
             }
         }
-        assert_eq!(whole.followers, counts);
+        assert_eq!(whole.yields, yields);
         lines[0].times.push((few[0], few[1]));
         lines[1].times.push((all / 1000.0, sampled.iter().sum::<f64>() / sampled.len() as f64));
     }

@@ -39,14 +39,15 @@ pub struct Found {
     pub reached: usize,
 }
 
-/// What a session fills: six slices of a number for each vertex, three of a number for each request.
+/// What a session fills: six slices of a number for each vertex, three of a number for each request. A net yield is how many followers the
+/// vertex has, less what it has climbed above its level with nobody anchored; it is -32,768 for an anchored vertex.
 #[derive(Clone, PartialEq, Eq, Debug, Default)]
 pub struct Record {
     pub anchored: Vec<u8>,
     pub levels: Vec<u16>,
     pub layers: Vec<u16>,
     pub components: Vec<u16>,
-    pub followers: Vec<u16>,
+    pub yields: Vec<i16>,
     pub stamps: Vec<u16>,
     pub status: Vec<u16>,
     pub lifted: Vec<u16>,
@@ -62,7 +63,7 @@ impl Record {
             levels: vertices.clone(),
             layers: vertices.clone(),
             components: vertices.clone(),
-            followers: vertices.clone(),
+            yields: vec![0; n],
             stamps: vertices,
             status: requests.clone(),
             lifted: requests.clone(),
@@ -149,13 +150,13 @@ pub fn collapse(input: Input, levels: &[u16], layers: &[u16], x: usize, marks: &
 /// A session: the input's bytes are those at the start, the record's those at the end.
 pub fn run(input: Input, requests: &[u16], record: &mut Record) -> Result<(), Refusal> {
     let Input { starts, links, anchored: given } = input;
-    let Record { anchored, levels, layers, components, followers, stamps, status, lifted, redone } = record;
+    let Record { anchored, levels, layers, components, yields, stamps, status, lifted, redone } = record;
     // SAFETY: pointers and lengths of live slices, no other borrow of those for writing; the call is proved to stay in them and keeps none.
     unsafe {
         exports::planner_run(
             starts.as_ptr(), starts.len(), links.as_ptr(), links.len(), given.as_ptr(), given.len(), requests.as_ptr(), requests.len(),
             anchored.as_mut_ptr(), anchored.len(), levels.as_mut_ptr(), levels.len(), layers.as_mut_ptr(), layers.len(),
-            components.as_mut_ptr(), components.len(), followers.as_mut_ptr(), followers.len(), stamps.as_mut_ptr(), stamps.len(),
+            components.as_mut_ptr(), components.len(), yields.as_mut_ptr(), yields.len(), stamps.as_mut_ptr(), stamps.len(),
             status.as_mut_ptr(), status.len(), lifted.as_mut_ptr(), lifted.len(), redone.as_mut_ptr(), redone.len(),
         )
     }

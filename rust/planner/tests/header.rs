@@ -24,11 +24,11 @@ check_sheet with a layer of 9: 21 1 0
 run: 0 0 0
   anchored 1 0 0 1
   levels 65535 2 2 65535
-  followers 65535 0 0 65535
-  stamps 0 0 1 1
+  yields -32768 -1 -1 -32768
+  stamps 0 1 1 1
   status 0 15
   lifted 2 0
-  redone 1 0
+  redone 2 0
 text_to_sheet: 12 0
 text_to_sheet: 0 50
 (round 01 (retain 0000) (marks ..) (redone 0000))

@@ -1,13 +1,13 @@
 //! Sessions against the naive working: all small graphs, random pools to 40 vertices, large ones against the quick working, every
-//! refusal, the limits. PLANNER_LONG=1 runs more.
+//! refusal, the limits; and what is climbed along a session, by the planner's own records alone. PLANNER_LONG=1 runs more.
 
 mod shared;
 
 use planner::{Record, Refusal};
 use pools::{Pool, Random};
 use reference::quick;
-use shared::{anchor_set, broken, held, input, plain, refusal, small_pools, wrong_lengths, DAMAGES};
-use std::collections::BTreeSet;
+use shared::{anchor_set, broken, greatest_yield, held, input, least_yield, plain, refusal, small_pools, wrong_lengths, DAMAGES};
+use std::collections::{BTreeMap, BTreeSet};
 
 /// Room for n vertices and m requests, with contents that no answer gives by chance.
 fn lent(n: usize, m: usize) -> Record {
@@ -16,7 +16,8 @@ fn lent(n: usize, m: usize) -> Record {
         levels: held(n, 1),
         layers: held(n, 2),
         components: held(n, 3),
-        followers: held(n, 4),
+        // from -21,136 up, and no net yield is so low but -32,768
+        yields: held(n, 4).into_iter().map(|number| number as i16).collect(),
         stamps: held(n, 5),
         status: held(m, 6),
         lifted: held(m, 7),
@@ -30,7 +31,7 @@ fn recorded(r: reference::Record) -> Record {
         levels: r.sheet.level,
         layers: r.sheet.layer,
         components: r.sheet.component,
-        followers: r.follower_counts,
+        yields: r.yields,
         stamps: r.stamps,
         status: r.status,
         lifted: r.followers,
@@ -52,16 +53,60 @@ fn refused(pool: &Pool, requests: &[u16], mut record: Record, number: u64, place
     assert!(record == before, "refusal {number} wrote to the record");
 }
 
-/// A sound pool's session against the naive one.
-fn compare(pool: &Pool, requests: &[u16]) {
+/// A sound pool's session against the naive one; its record.
+fn compare(pool: &Pool, requests: &[u16]) -> Record {
     let (graph, set) = reference::admit(&pool.starts, &pool.links, &pool.anchored).unwrap();
-    let expected = recorded(reference::session(&graph, &set, requests));
-    assert_eq!(accepted(pool, requests), expected, "{pool:?} {requests:?}");
+    let (record, expected) = (accepted(pool, requests), recorded(reference::session(&graph, &set, requests)));
+    assert_eq!(record, expected, "{pool:?} {requests:?}");
+    record
 }
 
 /// The same against the quick working.
-fn compare_large(pool: &Pool, requests: &[u16]) {
-    assert!(accepted(pool, requests) == recorded(quick::session(plain(pool), &anchor_set(pool), requests)));
+fn compare_large(pool: &Pool, requests: &[u16]) -> Record {
+    let record = accepted(pool, requests);
+    assert!(record == recorded(quick::session(plain(pool), &anchor_set(pool), requests)));
+    record
+}
+
+/// A pool and its bare levels, those with nobody anchored, as the planner works them out.
+struct Bare<'a> {
+    pool: &'a Pool,
+    levels: Vec<u16>,
+}
+
+impl Bare<'_> {
+    fn new(pool: &Pool) -> Bare<'_> {
+        let free = Pool { anchored: vec![0; pool.size()], ..pool.clone() };
+        let [mut levels, mut layers, mut components] = [0; 3].map(|_| vec![0; pool.size()]);
+        assert_eq!(planner::work(input(&free), &mut levels, &mut layers, &mut components), Ok(()));
+        Bare { pool, levels }
+    }
+
+    /// The sum of the climbs of all vertices not anchored.
+    fn climbed(&self, record: &Record) -> i64 {
+        let free = (0..self.pool.size()).filter(|&v| record.anchored[v] == 0);
+        free.map(|v| record.levels[v] as i64 - self.levels[v] as i64).sum()
+    }
+
+    /// Along a session, by the records that its first names leave, from none of them to all: the sum of climbs grows by the net yields of
+    /// the accepted names, each as it stood just before. Counts these as below 0, 0 and above.
+    fn compare(&self, requests: &[u16], upto: &[&Record], signs: &mut [usize; 3]) {
+        let mut sum = self.climbed(upto[0]);
+        for (i, &name) in requests.iter().enumerate() {
+            if upto[i + 1].status[i] == 0 {
+                let net = upto[i].yields[name as usize];
+                sum += net as i64;
+                signs[(net.signum() + 1) as usize] += 1;
+            }
+            assert_eq!(self.climbed(upto[i + 1]), sum, "{:?} {:?}", self.pool, &requests[..=i]);
+        }
+    }
+}
+
+/// The same with a call for each number of names.
+fn compare_climbs(pool: &Pool, requests: &[u16], signs: &mut [usize; 3]) {
+    let upto: Vec<Record> = (0..=requests.len()).map(|i| accepted(pool, &requests[..i])).collect();
+    Bare::new(pool).compare(requests, &upto.iter().collect::<Vec<_>>(), signs);
 }
 
 /// Random names: repeats, and some of n or more.
@@ -84,7 +129,7 @@ fn wrong_records(n: usize, m: usize) -> Vec<Record> {
             with(&|record| record.levels.resize(length, 7)),
             with(&|record| record.layers.resize(length, 7)),
             with(&|record| record.components.resize(length, 7)),
-            with(&|record| record.followers.resize(length, 7)),
+            with(&|record| record.yields.resize(length, 7)),
             with(&|record| record.stamps.resize(length, 7)),
         ]
     });
@@ -117,24 +162,36 @@ fn lists(n: u16, length: usize) -> Vec<Vec<u16>> {
     }
 }
 
+/// The names accepted in the longest lists of `all_small_graphs`, with a net yield below 0, of 0 and above; and in a long run. The figures
+/// were counted apart from the tests.
+const SIGNS: [usize; 3] = [135_372, 727_883, 166_504];
+const LONG_SIGNS: [usize; 3] = [1_146_472, 5_199_543, 1_237_344];
+
 /// Every list of up to two names on all graphs of up to 5 vertices with every anchor set, and of three to 4 vertices.
 #[test]
 fn all_small_graphs() {
-    let mut sessions = [0; 4];
+    let (mut sessions, mut signs) = ([0; 4], [0; 3]);
     for pool in small_pools(5) {
         let n = pool.size() as u16;
-        for length in 0..=if n < 5 || pools::long() { 3 } else { 2 } {
-            for list in lists(n, length) {
-                compare(&pool, &list);
-                sessions[length] += 1;
-            }
+        let longest = if n < 5 || pools::long() { 3 } else { 2 };
+        let mut records = BTreeMap::new();
+        for list in (0..=longest).flat_map(|length| lists(n, length)) {
+            sessions[list.len()] += 1;
+            records.insert(list.clone(), compare(&pool, &list));
+        }
+        let bare = Bare::new(&pool);
+        for list in lists(n, longest) {
+            let upto: Vec<&Record> = (0..=longest).map(|i| &records[&list[..i]]).collect();
+            bare.compare(&list, &upto, &mut signs);
         }
     }
     println!("sessions on all graphs of up to 5 vertices with every anchor set: {sessions:?} of 0, 1, 2 and 3 names");
+    println!("names accepted in the longest, by the sign of their net yields: {signs:?}");
     // 1, 2, 8, 64, 1,024 and 32,768 pools of 0 to 5 vertices, with 1 to 6 names: for one name 1 + 4 + 24 + 256 + 5,120 + 196,608, for
     // two 1 + 8 + 72 + 1,024 + 25,600 + 1,179,648, for three 1 + 16 + 216 + 4,096 + 128,000
     let three = 132_329 + if pools::long() { 32_768 * 6 * 6 * 6 } else { 0 };
     assert_eq!(sessions, [33_867, 202_013, 1_206_353, three]);
+    assert_eq!(signs, if pools::long() { LONG_SIGNS } else { SIGNS });
 }
 
 /// On the same graphs some longer lists, slices of wrong lengths, too many names, and damage.
@@ -177,6 +234,31 @@ fn random_pools() {
     println!("{count} sessions on random pools to 40 vertices, {served} requests");
 }
 
+/// What is climbed along sessions on random pools and on large ones.
+#[test]
+fn climbs() {
+    let (mut random, mut signs) = (Random(1123581321), [0; 3]);
+    let count = if pools::long() { 20000 } else { 2000 };
+    for i in 0..count {
+        let pool = Pool::random_small(&mut random, if i % 4 == 0 { 40 } else { 16 });
+        let requests = random_requests(&mut random, pool.size(), 12);
+        compare_climbs(&pool, &requests, &mut signs);
+    }
+    println!("{count} sessions on random pools to 40 vertices, names by the sign of their net yields: {signs:?}");
+    assert!(signs.iter().all(|&names| names > 500));
+    let mut signs = [0; 3];
+    for m in [900, 2000, 5000, 8192] {
+        let mut pool = Pool::random(&mut random, 1024, m);
+        for _ in 0..60 {
+            pool.anchored[random.below(1024)] = 1;
+        }
+        let requests: Vec<u16> = (0..8).map(|_| random.below(1026) as u16).collect();
+        compare_climbs(&pool, &requests, &mut signs);
+    }
+    println!("4 sessions on pools of 1,024 vertices: {signs:?}");
+    assert!(signs.iter().all(|&names| names > 0));
+}
+
 #[test]
 fn large_pools() {
     let mut random = Random(5772156649);
@@ -191,9 +273,7 @@ fn large_pools() {
     }
     let chain = Pool::of_edges(1024, (0..1023).map(|v| (v, v + 1)), vec![0; 1024]);
     compare_large(&chain, &[0, 1023, 512, 511, 512, 1024]);
-    let star = Pool::of_edges(1024, (1..1024).map(|v| (0, v)), [vec![0], vec![1; 1023]].concat());
-    compare_large(&star, &[0, 0]);
-    println!("{} sessions on pools of 1,024 vertices", count + 2);
+    println!("{} sessions on pools of 1,024 vertices", count + 1);
 }
 
 #[test]
@@ -226,12 +306,42 @@ fn refusals() {
     }
 }
 
+/// A session told by hand: edges, anchored bytes and names; of each name status, lifted and redone; stamps and net yields at the end.
+type Told = (&'static [(usize, usize)], &'static [u8], &'static [u16], &'static [[u16; 3]], &'static [u16], &'static [i16]);
+
+#[test]
+fn small_examples() {
+    const CHAIN: &[(usize, usize)] = &[(0, 1), (1, 2), (2, 3)];
+    const PAIRS: &[(usize, usize)] = &[(0, 1), (0, 2)];
+    const STAR: &[(usize, usize)] = &[(0, 1), (0, 2), (0, 3)];
+    let cases: [Told; 8] = [
+        (CHAIN, &[0, 0, 0, 0], &[], &[], &[0, 0, 0, 0], &[0, 0, 0, 0]),
+        (CHAIN, &[1, 0, 0, 0], &[], &[], &[0, 0, 0, 0], &[-32768, 0, 1, 2]),
+        // 1 and 2 have climbed a level and lift nobody
+        (CHAIN, &[1, 0, 0, 1], &[], &[], &[0, 0, 0, 0], &[-32768, -1, -1, -32768]),
+        (CHAIN, &[0, 0, 0, 0], &[0, 0, 3, 9], &[[0, 0, 2], [16, 0, 0], [0, 2, 2], [15, 0, 0]], &[1, 3, 3, 3], &[-32768, -1, -1, -32768]),
+        (STAR, &[0, 1, 0, 0], &[2], &[[0, 1, 2]], &[1, 0, 1, 1], &[-1, -32768, -32768, 1]),
+        // 0 has no neighbor of greater pair: its row is redone because its level changed
+        (PAIRS, &[0, 1, 0], &[2], &[[0, 1, 1]], &[1, 0, 1], &[-1, -32768, -32768]),
+        // neither 0 nor 3 lifts anybody, and 0 has climbed
+        (PAIRS, &[0, 1, 1, 0], &[], &[], &[0, 0, 0, 0], &[-1, -32768, -32768, 0]),
+        (PAIRS, &[0, 1, 1, 0], &[3, 0], &[[0, 0, 0], [0, 0, 0]], &[2, 0, 0, 1], &[-32768; 4]),
+    ];
+    for (edges, anchored, names, rows, stamps, yields) in cases {
+        let pool = Pool::of_edges(anchored.len(), edges.iter().copied(), anchored.to_vec());
+        let record = compare(&pool, names);
+        let columns = record.status.iter().zip(&record.lifted).zip(&record.redone);
+        assert_eq!(columns.map(|((&status, &lifted), &redone)| [status, lifted, redone]).collect::<Vec<_>>(), rows, "{pool:?} {names:?}");
+        assert_eq!((&record.stamps[..], &record.yields[..]), (stamps, yields), "{pool:?} {names:?}");
+    }
+}
+
 #[test]
 fn limits() {
-    let chain = Pool::of_edges(4, [(0, 1), (1, 2), (2, 3)], vec![0; 4]);
-    let record = accepted(&chain, &[0, 0, 3, 9]);
-    assert_eq!((record.status, record.lifted, record.redone), (vec![0, 16, 0, 15], vec![0, 0, 2, 0], vec![2, 0, 1, 0]));
-    assert_eq!(record.stamps, [1, 0, 3, 3]);
+    assert_eq!(compare_large(&least_yield(), &[]).yields[..2], [-1022, -32768]);
+    assert_eq!(compare_large(&least_yield(), &[0, 0]).yields, [-32768; 1024]);
+    assert_eq!(compare_large(&greatest_yield(), &[]).yields[1023], 1023);
+    assert_eq!(compare_large(&greatest_yield(), &[1023]).lifted, [1023]);
     let mut random = Random(1618033988);
     for pool in [Pool::random(&mut random, 40, 90), Pool::random(&mut random, 1024, 3000)] {
         let requests: Vec<u16> = (0..4096).map(|i| if i < 4056 { 2000 + i } else { i - 4056 }).collect();

@@ -6,7 +6,7 @@ mod shared;
 use planner::Refusal;
 use pools::{Pool, Random};
 use reference::quick;
-use shared::{refusal, small_pools};
+use shared::{greatest_yield, least_yield, refusal, small_pools};
 use std::collections::BTreeMap;
 
 const LONGEST: usize = 64320;
@@ -48,13 +48,29 @@ const CHAIN: &str = "(riders 4)\n(rider 0 (with 1))\n(rider 1 (with 0 2))\n(ride
 
 #[test]
 fn listing() {
-    let sheet = "(round 01 (retain 0000) (marks ....) (redone 0002))\n(round 02 (retain 0003) (marks .++.) (redone 0001))\n";
+    let sheet = "(round 01 (retain 0000) (marks ....) (redone 0002))\n(round 02 (retain 0003) (marks .++.) (redone 0002))\n";
     assert_eq!(compare(CHAIN.as_bytes(), 104), Ok(sheet.as_bytes().to_vec()));
     for room in [104, 105, 500, LONGEST, 100000] {
         assert_eq!(compare(CHAIN.as_bytes(), room), Ok(sheet.as_bytes().to_vec()));
     }
     for room in 0..104 {
         refused(CHAIN, room, 12, 0);
+    }
+}
+
+/// A round anchors the vertex of greatest net yield, even where that is below 0.
+#[test]
+fn choices() {
+    // nobody lifts anyone; 0 has climbed a level, 3 has not
+    let climbed = Pool::of_edges(4, [(0, 1), (0, 2)], vec![0, 1, 1, 0]).text(2);
+    let lines = "(round 01 (retain 0003) (marks ....) (redone 0000))\n(round 02 (retain 0000) (marks ....) (redone 0000))\n";
+    assert_eq!(compare(&climbed, 104), Ok(lines.as_bytes().to_vec()));
+    let both = Pool::of_edges(4, [(0, 1), (1, 2), (2, 3)], vec![1, 0, 0, 1]).text(1);
+    assert!(compare(&both, 52).unwrap().starts_with(b"(round 01 (retain 0001) (marks ....)"));
+    for (pool, chosen, lifted) in [(least_yield(), "0000", 0), (greatest_yield(), "1023", 1023)] {
+        let sheet = String::from_utf8(compare_large(&pool.text(1), 1072).unwrap()).unwrap();
+        assert!(sheet.starts_with(&format!("(round 01 (retain {chosen}) (marks ")));
+        assert_eq!(sheet.matches('+').count(), lifted);
     }
 }
 

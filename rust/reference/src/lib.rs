@@ -270,12 +270,18 @@ pub fn collapse(graph: &Graph, anchored: &[bool], x: usize) -> Vec<u8> {
     (0..graph.size()).map(|v| (v != x && !anchored[v] && after[v] < before[v]) as u8).collect()
 }
 
-fn follower_count(graph: &Graph, at: &Anchoring, x: usize) -> u16 {
+/// The bare levels: those with nobody anchored.
+fn bare_levels(graph: &Graph) -> Vec<u16> {
+    sheet(graph, &vec![false; graph.size()]).level
+}
+
+/// The net yield of x: how many followers it has, less its climb above its bare level; -32,768 if it is anchored.
+fn net_yield(graph: &Graph, at: &Anchoring, bare: &[u16], x: usize) -> i16 {
     if at.anchored[x] {
-        ANCHORED
-    } else {
-        count(&followers(at, &at.with(graph, x))) as u16
+        return -32768;
     }
+    let climb = at.sheet.level[x] as i16 - bare[x] as i16;
+    count(&followers(at, &at.with(graph, x))) as i16 - climb
 }
 
 fn component_of(s: &Sheet, v: usize) -> BTreeSet<usize> {
@@ -302,7 +308,8 @@ fn recomputed(graph: &Graph, a: &Anchoring, b: &Anchoring) -> Vec<bool> {
         let pair = |v: usize| (at.sheet.level[v], at.sheet.layer[v]);
         graph.neighbors[u].iter().any(|&v| !at.anchored[v] && pair(v) > pair(u) && !calm[v])
     };
-    (0..n).map(|u| !b.anchored[u] && (looks(a, u) || looks(b, u))).collect()
+    let moved = |u: usize| a.sheet.level[u] != b.sheet.level[u];
+    (0..n).map(|u| !b.anchored[u] && (looks(a, u) || looks(b, u) || moved(u))).collect()
 }
 
 /// The record of a session, and the three numbers of each request.
@@ -310,7 +317,7 @@ fn recomputed(graph: &Graph, a: &Anchoring, b: &Anchoring) -> Vec<bool> {
 pub struct Record {
     pub anchored: Vec<u8>,
     pub sheet: Sheet,
-    pub follower_counts: Vec<u16>,
+    pub yields: Vec<i16>,
     pub stamps: Vec<u16>,
     pub status: Vec<u16>,
     pub followers: Vec<u16>,
@@ -320,6 +327,7 @@ pub struct Record {
 /// The plain session, everything fresh.
 pub fn session(graph: &Graph, start: &[bool], requests: &[u16]) -> Record {
     let n = graph.size();
+    let bare = bare_levels(graph);
     let mut at = Anchoring::new(graph, start);
     let mut stamps = vec![0u16; n];
     let (mut status, mut up, mut again) = (vec![], vec![], vec![]);
@@ -345,7 +353,7 @@ pub fn session(graph: &Graph, start: &[bool], requests: &[u16]) -> Record {
     }
     Record {
         anchored: at.anchored.iter().map(|&b| b as u8).collect(),
-        follower_counts: (0..n).map(|v| follower_count(graph, &at, v)).collect(),
+        yields: (0..n).map(|v| net_yield(graph, &at, &bare, v)).collect(),
         sheet: at.sheet,
         stamps,
         status,
@@ -354,12 +362,12 @@ pub fn session(graph: &Graph, start: &[bool], requests: &[u16]) -> Record {
     }
 }
 
-/// The vertex a round anchors, if anyone is left.
-fn choice(graph: &Graph, at: &Anchoring) -> Option<usize> {
+/// The vertex a round anchors, if anyone is left: of greatest net yield, the lowest among equals.
+fn choice(graph: &Graph, at: &Anchoring, bare: &[u16]) -> Option<usize> {
     let free: Vec<usize> = (0..graph.size()).filter(|&v| !at.anchored[v]).collect();
-    let counts: Vec<u16> = free.iter().map(|&v| follower_count(graph, at, v)).collect();
-    let best = counts.iter().max()?;
-    counts.iter().position(|count| count == best).map(|i| free[i])
+    let yields: Vec<i16> = free.iter().map(|&v| net_yield(graph, at, bare, v)).collect();
+    let best = yields.iter().max()?;
+    yields.iter().position(|net| net == best).map(|i| free[i])
 }
 
 /// One line of the answer sheet.
@@ -371,10 +379,11 @@ fn line(round: usize, chosen: Option<usize>, up: &[bool], rows: usize) -> String
 
 /// The lines of the answer sheet.
 pub fn rounds(graph: &Graph, start: &[bool], number: usize) -> Vec<u8> {
+    let bare = bare_levels(graph);
     let mut at = Anchoring::new(graph, start);
     let mut out = String::new();
     for r in 1..=number {
-        match choice(graph, &at) {
+        match choice(graph, &at, &bare) {
             Some(x) => {
                 let next = at.with(graph, x);
                 out.push_str(&line(r, Some(x), &followers(&at, &next), count(&recomputed(graph, &at, &next))));

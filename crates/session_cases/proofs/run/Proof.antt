@@ -10,11 +10,11 @@ use Rattle.session_cases.proofs.run.Statement.{statement}
 use Rattle.session_cases.proofs.run.Tie as tie
 
 -- a lent part is as long as is said
-lent : (n : ℕ) (row : List ℕ) → n ≤ length row → n ≡ length (take n row)
+lent : {X : Type 0} (n : ℕ) (row : List X) → n ≤ length row → n ≡ length (take n row)
 lent n row h = sym (length-take-le _ _ h)
 
 -- an array is as long as before when its lent part is back
-back : (n : ℕ) (part row : List ℕ) → n ≤ length row → length part ≡ length (take n row) → length row ≡ length (part ++ drop n row)
+back : {X : Type 0} (n : ℕ) (part row : List X) → n ≤ length row → length part ≡ length (take n row) → length row ≡ length (part ++ drop n row)
 back n part row h e = let l = e ∙ length-take-le n row h in simp (length-append, length-drop) (omega arith)
 
 abbrev first : tie.After-run → tie.Start
@@ -44,8 +44,8 @@ array-borrow-prefix-components c = search needs
 slice-aggregate-run-4 : tie.Need-slice-aggregate-run-4
 slice-aggregate-run-4 c = lent _ _ (c .before .before .before .before .before .before .before .before .before .pre .0)
 
-array-borrow-prefix-followers : tie.Need-array-borrow-prefix-followers
-array-borrow-prefix-followers c = search needs
+array-borrow-prefix-yields : tie.Need-array-borrow-prefix-yields
+array-borrow-prefix-yields c = search needs
 
 slice-aggregate-run-5 : tie.Need-slice-aggregate-run-5
 slice-aggregate-run-5 c = lent _ _ (c .before .before .before .before .before .before .before .before .before .before .pre .0)
@@ -117,26 +117,35 @@ slice-aggregate-rows-7 c =
 rows-requires-2 : tie.Need-rows-requires-2
 rows-requires-2 c κs = search needs
 
-slice-aggregate-rows-8 : tie.Need-slice-aggregate-rows-8
-slice-aggregate-rows-8 c = search needs
+slice-aggregate-row : tie.Need-slice-aggregate-row
+slice-aggregate-row c = search needs
 
-slice-aggregate-rows-9 : tie.Need-slice-aggregate-rows-9
-slice-aggregate-rows-9 c =
+slice-aggregate-row-2 : tie.Need-slice-aggregate-row-2
+slice-aggregate-row-2 c =
     let at = c .before .before .before .before .before .before .before .before .before .before .before .before .before .before .before .before .before .before .before .before .before in
     back _ (at .run .last .1 .1 .1 .1 .1 .1 .0) _ (first at .pre .0) (at .run .kept .1 .1 .1 .1 .1 .1 .0)
 
-slice-aggregate-rows-10 : tie.Need-slice-aggregate-rows-10
-slice-aggregate-rows-10 c =
-    let at = c .before .before .before .before .before .before .before .before .before .before .before .before .before .before .before .before .before .before .before .before .before .before in
+row-requires : tie.Need-row-requires
+row-requires c κs = search needs
+
+slice-aggregate-row-3 : tie.Need-slice-aggregate-row-3
+slice-aggregate-row-3 c = search needs
+
+slice-aggregate-row-4 : tie.Need-slice-aggregate-row-4
+slice-aggregate-row-4 c =
+    let at = c .before .before .before .before .before .before .before .before .before .before .before .before .before .before .before .before .before .before .before .before .before .before .before .before in
     back _ (at .run .last .1 .1 .1 .1 .1 .1 .1 .0) _ (first at .pre .0) (at .run .kept .1 .1 .1 .1 .1 .1 .1 .0)
 
-slice-aggregate-rows-11 : tie.Need-slice-aggregate-rows-11
-slice-aggregate-rows-11 c =
-    let at = c .before .before .before .before .before .before .before .before .before .before .before .before .before .before .before .before .before .before .before .before .before .before .before in
+row-requires-2 : tie.Need-row-requires-2
+row-requires-2 c κs = search needs
+
+slice-aggregate-print-yields : tie.Need-slice-aggregate-print-yields
+slice-aggregate-print-yields c =
+    let at = c .before .before .before .before .before .before .before .before .before .before .before .before .before .before .before .before .before .before .before .before .before .before .before .before .before .before in
     back _ (at .run .last .1 .1 .1 .1 .1 .1 .1 .1 .0) _ (first at .pre .0) (at .run .kept .1 .1 .1 .1 .1 .1 .1 .1 .0)
 
-rows-requires-3 : tie.Need-rows-requires-3
-rows-requires-3 c κs = search needs
+print-yields-requires : tie.Need-print-yields-requires
+print-yields-requires c κs = search needs
 
 returns : tie.Need-returns
 returns c = search needs
@@ -153,7 +162,7 @@ run-spec =
     slice-aggregate-run-3
     array-borrow-prefix-components
     slice-aggregate-run-4
-    array-borrow-prefix-followers
+    array-borrow-prefix-yields
     slice-aggregate-run-5
     array-borrow-prefix-stamps
     slice-aggregate-run-6
@@ -174,9 +183,12 @@ run-spec =
     slice-aggregate-rows-6
     slice-aggregate-rows-7
     rows-requires-2
-    slice-aggregate-rows-8
-    slice-aggregate-rows-9
-    slice-aggregate-rows-10
-    slice-aggregate-rows-11
-    rows-requires-3
+    slice-aggregate-row
+    slice-aggregate-row-2
+    row-requires
+    slice-aggregate-row-3
+    slice-aggregate-row-4
+    row-requires-2
+    slice-aggregate-print-yields
+    print-yields-requires
     returns)

@@ -1,7 +1,5 @@
 -- `mark_stale` meets its contract. Assumes nothing.
-use Prim.Native.Nat.{ℕ}
 use native.Mathlib.Omega.{arith}
-use lib.ListN.{length-replicate}
 use Rattle.stale.proofs.Stale.{passes-find}
 use borrow.Author.Needs.{needs}
 use Rattle.stale.proofs.mark_stale.Statement.{statement}
@@ -9,10 +7,10 @@ use Rattle.stale.proofs.mark_stale.Tie as tie
 
 -- the passes, each seen from the one after it, and the entry
 abbrev start : tie.After-mark-differing → tie.Start
-start c = c .before .before .before .before .before .before .before .before .before .before .before .before .before .before
+start c = c .before .before .before .before .before .before .before .before .before .before .before .before .before .before .before
 
 abbrev by-level : tie.After-mark-differing2 → tie.After-mark-differing
-by-level c = c .before .before .before .before
+by-level c = c .before .before .before .before .before
 
 abbrev by-number : tie.After-mark-differing3 → tie.After-mark-differing2
 by-number c = c .before .before .before .before
@@ -24,7 +22,7 @@ abbrev numbered : tie.After-mark-numbers2 → tie.After-mark-numbers
 numbered c = c .before .before .before .before
 
 abbrev marked : tie.After-mark-lookers → tie.After-mark-numbers2
-marked c = c .before .before .before .before .before .before .before
+marked c = c .before .before .before .before .before .before
 
 sub-n : tie.Need-sub-n
 sub-n c = search needs
@@ -33,7 +31,7 @@ mark-differing-requires : tie.Need-mark-differing-requires
 mark-differing-requires c κs = search needs
 
 mark-differing-requires-2 : tie.Need-mark-differing-requires-2
-mark-differing-requires-2 c κs = let pass = c .before .before .before in (omega (arith, start pass .pre .small), pass .mark-differing .ensures .long)
+mark-differing-requires-2 c κs = let pass = c .before .before .before .before in (omega (arith, start pass .pre .small), pass .mark-differing .ensures .long)
 
 mark-differing-requires-3 : tie.Need-mark-differing-requires-3
 mark-differing-requires-3 c κs = let pass = c .before .before .before in (omega (arith, start (by-level pass) .pre .small), pass .mark-differing2 .ensures .long)
@@ -47,7 +45,9 @@ mark-numbers-requires-2 c κs =
     (omega (arith, start (by-level (by-number (compared pass))) .pre .small), pass .mark-numbers .ensures .long)
 
 mark-lookers-requires : tie.Need-mark-lookers-requires
-mark-lookers-requires c κs = (start (by-level (by-number (compared (numbered (c .before .before .before .before .before .before))))) .pre, length-replicate {A = ℕ} 1024 0)
+mark-lookers-requires c κs =
+    let pass = by-level (by-number (compared (numbered (c .before .before .before .before .before)))) in
+    (start pass .pre, pass .mark-differing .ensures .long)
 
 mark-lookers-requires-2 : tie.Need-mark-lookers-requires-2
 mark-lookers-requires-2 c κs =

@@ -19,7 +19,7 @@ abbrev refreshed : tie.After-mark-stale → tie.After-refresh
 refreshed c = c .before .before
 
 abbrev start : tie.After-refresh → tie.Start
-start c = c .before .before .before .before .before
+start c = c .before .before .before .before .before .before
 
 -- x is a place of every array
 inside : (c : tie.Start) → c .args .x < 1024
@@ -33,19 +33,19 @@ admits : (c : tie.Start) → Admitted (c .args .starts .now) (c .args .links .no
 admits c = admitted-set _ _ _ (c .args .x) (c .pre .0 .admitted) (c .pre .1 .0)
 
 array-write-anchored : tie.Need-array-write-anchored
-array-write-anchored c = inside (c .before .before .before)
+array-write-anchored c = inside (c .before .before .before .before)
 
 refresh-requires : tie.Need-refresh-requires
-refresh-requires c κs = admits (c .before .before .before .before)
+refresh-requires c κs = admits (c .before .before .before .before .before)
 
 mark-stale-requires : tie.Need-mark-stale-requires
 mark-stale-requires c κs = start (c .before) .pre .0 .admitted .table
 
 mul-lifted : tie.Need-mul-lifted
-mul-lifted c = omega (arith, inside (c .before .before .before .before .before .before .before .before .before))
+mul-lifted c = omega (arith, inside (c .before .before .before .before .before .before .before .before .before .before))
 
 array-read-lifted : tie.Need-array-read-lifted
-array-read-lifted c = inside (c .before .before .before .before .before .before .before .before .before)
+array-read-lifted c = inside (c .before .before .before .before .before .before .before .before .before .before)
 
 redo-requires : tie.Need-redo-requires
 redo-requires c κs =
@@ -65,8 +65,8 @@ mul-stamp c = omega (arith, inside (start (refreshed (marked c))))
 array-write-stamp : tie.Need-array-write-stamp
 array-write-stamp c = inside (start (refreshed (marked c)))
 
-cast-t21 : tie.Need-cast-t21
-cast-t21 c = omega (arith, start (refreshed (marked c)) .pre .0 .admitted .table .small, redone-le (c .redo .ensures))
+cast-t22 : tie.Need-cast-t22
+cast-t22 c = omega (arith, start (refreshed (marked c)) .pre .0 .admitted .table .small, redone-le (c .redo .ensures))
 
 returns : tie.Need-returns
 returns c =
@@ -90,5 +90,5 @@ accept-spec =
     array-write-followers
     mul-stamp
     array-write-stamp
-    cast-t21
+    cast-t22
     returns)

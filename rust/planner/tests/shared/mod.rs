@@ -29,6 +29,19 @@ pub fn small_pools(most: usize) -> BTreeSet<Pool> {
     pools
 }
 
+/// A star of which all but the middle, 0, are anchored: with a level of 1,023 and a bare level of 1, 0 has the least net yield there is.
+pub fn least_yield() -> Pool {
+    Pool::of_edges(1024, (1..1024).map(|v| (0, v)), [vec![0], vec![1; 1023]].concat())
+}
+
+/// Vertex 1,023 lifts all others, from level 2 to level 3, and has climbed nothing itself: the greatest net yield there is. In all each of
+/// the others has three neighbors or more, 0 by vertex 1,023; without that one they go in rising order, each with two left behind it.
+pub fn greatest_yield() -> Pool {
+    let behind = |v: usize| [v + 1, if v == 500 { 1022 } else { v + 2 }];
+    let edges = (0..1022).flat_map(|v| behind(v).map(|u| (v, u.min(1022))));
+    Pool::of_edges(1024, edges.chain([(0, 1023)]), vec![0; 1024])
+}
+
 /// The refusals that damaged pools of few vertices meet.
 pub const DAMAGES: [u64; 8] = [1, 4, 5, 6, 7, 8, 9, 10];
 

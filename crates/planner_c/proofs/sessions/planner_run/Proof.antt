@@ -8,7 +8,7 @@ use Rattle.planner_c.proofs.sessions.planner_run.Tie as tie
 
 -- the call, seen from the end
 abbrev called : tie.After-of-ran → tie.After-run
-called c = c .before .before .before .before .before .before .before .before .before .before .before .before .before .before .before .before .before .before .before
+called c = c .before .before .before .before .before .before .before .before .before .before .before .before .before .before .before .before .before .before
 
 run-requires : tie.Need-run-requires
 run-requires c κs = search needs

@@ -26,15 +26,19 @@ padded c =
 refresh-requires : tie.Need-refresh-requires
 refresh-requires c κs = padded (c .before)
 
+fill-bare-requires : tie.Need-fill-bare-requires
+fill-bare-requires c κs = start (c .before .before .before .before .before) .pre .0 .table
+
 count-rows-requires : tie.Need-count-rows-requires
 count-rows-requires c κs =
-    let refreshed = c .before .before .before .before .before .before in
+    let refreshed = c .before .before .before .before .before .before .before .before in
     let columns = refreshed .refresh .ensures in
     (padded (refreshed .before .before), (columns .levels, (columns .layers, refl)))
 
 returns : tie.Need-returns
 returns c =
-    let refreshed = c .before .before .before .before .before .before .before in
+    let bared = c .before .before .before .before .before in
+    let refreshed = bared .before .before .before .before in
     let filled = refreshed .before .before in
     let args = start filled .args in
     let small = start filled .pre .0 .table .small in
@@ -44,6 +48,7 @@ returns c =
       right = record {
         admitted = padded filled;
         columns = refreshed .refresh .ensures;
+        bares = bared .fill-bare .ensures;
         counts = counted .1;
         counts-long = omega (arith, small, counted .0);
         stamps-long = omega arith;
@@ -52,4 +57,4 @@ returns c =
     }
 
 pub begin-spec : {M : Type 1} → statement M
-begin-spec = tie.close (tie.spec pad-requires refresh-requires count-rows-requires returns)
+begin-spec = tie.close (tie.spec pad-requires refresh-requires fill-bare-requires count-rows-requires returns)

@@ -5,17 +5,18 @@ use native.Mathlib.Omega.{arith}
 use borrow.Author.Needs.{needs}
 use Rattle.pool.proofs.Sheet.{in-arrays}
 use Rattle.table.specs.Table.{vertices}
+use Rattle.records.proofs.Nets.{right-small}
 use Rattle.rounds.proofs.Playing.{chosen-low, chosen-free, written-some, written-none, keeps-some, keeps-none}
 use Rattle.rounds.proofs.play.play.Statement.{statement}
 use Rattle.rounds.proofs.play.play.Tie as tie
 
 -- the entry, seen from the choice
 abbrev entry : tie.After-choose → tie.Start
-entry c = c .before .before .before .before .before .before .before .before
+entry c = c .before .before .before .before
 
 -- where there is a choice, and the search from it
 abbrev some : tie.After-search → tie.Else1
-some c = c .before .before .before .before .before .before .before .before
+some c = c .before .before .before .before .before .before .before .before .before
 
 abbrev searched : tie.After-next → tie.After-search
 searched c = c .before .before .before .before .before .before .before .before
@@ -27,7 +28,7 @@ sub-n : tie.Need-sub-n
 sub-n c = search needs
 
 choose-requires : tie.Need-choose-requires
-choose-requires c κs = search needs
+choose-requires c κs = let right = c .before .before .before .pre .0 in (right .admitted .table .small, right-small right)
 
 put-line-requires : tie.Need-put-line-requires
 put-line-requires c κs = search needs
@@ -54,7 +55,7 @@ slice-aggregate-search-3 c = search needs
 
 search-requires : tie.Need-search-requires
 search-requires c κs =
-    let some = c .before .before .before .before .before .before .before in
+    let some = c .before .before .before .before .before .before .before .before in
     let right = entry (some .before) .pre .0 in (
       in-arrays (right .admitted) (sym (slice-aggregate-search-2 (c .before .before))) (sym (slice-aggregate-search-3 (c .before))) (right .columns .levels) (right .columns .layers),
       (low some, chosen-free right (some .before .choose .ensures) (low some)),
@@ -63,8 +64,8 @@ search-requires c κs =
 step-requires : tie.Need-step-requires
 step-requires c κs = search needs
 
-cast-t37 : tie.Need-cast-t37
-cast-t37 c =
+cast-t34 : tie.Need-cast-t34
+cast-t34 c =
     let some = some (c .before .before) in
     omega (arith, low some, entry (some .before) .pre .0 .admitted .table .small)
 
@@ -100,7 +101,7 @@ play-spec =
     slice-aggregate-search-3
     search-requires
     step-requires
-    cast-t37
+    cast-t34
     put-line-requires-2
     same-length-2
     returns-2)

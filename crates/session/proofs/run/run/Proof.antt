@@ -13,20 +13,20 @@ use Rattle.session.proofs.run.run.Tie as tie
 
 -- the entry, seen from the answer, and the slices lent
 abbrev start : tie.After-enum-told → tie.Start
-start c = c .before .before .before .before .before .before .before .before .before .before .before .before .before .before .before .before .before .before
+start c = c .before .before .before .before .before .before .before .before .before .before .before .before .before .before .before .before .before
 
 abbrev lent : tie.Start → Slices
 lent c =
     let args = c .args in
-    slices (args .anchored .now) (args .levels .now) (args .layers .now) (args .components .now) (args .followers .now) (args .stamps .now) (args .status .now) (args .lifted .now) (args .redone .now)
+    slices (args .anchored .now) (args .levels .now) (args .layers .now) (args .components .now) (args .yields .now) (args .stamps .now) (args .status .now) (args .lifted .now) (args .redone .now)
 
 -- the answer is that nothing is refused
 told : (c : tie.After-enum-told) → let args = start c .args in runOf (args .starts .now) (args .links .now) (args .given .now) (args .requests .now) (lent (start c)) ≡ Passed
 told c = sym (c .before .before .admit .ensures) ∙ c .enum-told .given .1
 
 -- the call, seen from the end
-abbrev called : tie.After-slice-known18 → tie.After-write
-called c = c .before .before .before .before .before .before .before .before .before .before .before .before .before .before .before .before .before .before
+abbrev called : tie.After-slice-known16 → tie.After-write
+called c = c .before .before .before .before .before .before .before .before .before .before .before .before .before .before .before .before .before
 
 slice-aggregate-admit : tie.Need-slice-aggregate-admit
 slice-aggregate-admit c = search needs

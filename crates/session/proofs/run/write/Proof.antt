@@ -2,32 +2,34 @@
 use mathlib.Core.Path.{_≡_}
 use mathlib.Core.List.{List}
 use Prim.Native.Nat.{ℕ}
+use lib.IntN.{ℤ}
 use native.Mathlib.Omega.{arith}
+use Rattle.records.proofs.Nets.{right-small}
 use Rattle.session.specs.Run.{slices}
-use Rattle.session.proofs.Serving.{copied-out, end-anchored, end-columns, end-counts}
+use Rattle.session.proofs.Serving.{copied-out, end-anchored, end-columns, end-yields}
 use Rattle.session.proofs.run.write.Statement.{statement}
 use Rattle.session.proofs.run.write.Tie as tie
 
 -- slices alike one by one are alike together
-same-slices : {a b c d e f g h i a1 b1 c1 d1 e1 f1 g1 h1 i1 : List ℕ} → a ≡ a1 → b ≡ b1 → c ≡ c1 → d ≡ d1 → e ≡ e1 → f ≡ f1 → g ≡ g1 → h ≡ h1 → i ≡ i1 → slices a b c d e f g h i ≡ slices a1 b1 c1 d1 e1 f1 g1 h1 i1
+same-slices : {a b c d f g h i a1 b1 c1 d1 f1 g1 h1 i1 : List ℕ} {e e1 : List ℤ} → a ≡ a1 → b ≡ b1 → c ≡ c1 → d ≡ d1 → e ≡ e1 → f ≡ f1 → g ≡ g1 → h ≡ h1 → i ≡ i1 → slices a b c d e f g h i ≡ slices a1 b1 c1 d1 e1 f1 g1 h1 i1
 same-slices pa pb pc pd pe pf pg ph pi = cc
 
 -- the calls, seen from the end
-abbrev rows-copied : tie.After-slice-known18 → tie.After-copy-rows
-rows-copied c = c .before .before .before .before .before .before
+abbrev rows-copied : tie.After-slice-known16 → tie.After-copy-rows
+rows-copied c = c .before .before .before .before .before
 
-abbrev sheet-copied : tie.After-slice-known18 → tie.After-copy-sheet
-sheet-copied c = c .before .before .before .before .before .before .before .before .before .before .before .before .before .before .before .before
+abbrev sheet-copied : tie.After-slice-known16 → tie.After-copy-sheet
+sheet-copied c = c .before .before .before .before .before .before .before .before .before .before .before .before .before .before .before
 
-abbrev served : tie.After-slice-known18 → tie.After-serve
-served c = c .before .before .before .before .before .before .before .before .before .before .before .before .before .before .before .before .before .before .before .before .before .before .before .before .before .before
+abbrev served : tie.After-slice-known16 → tie.After-serve
+served c = c .before .before .before .before .before .before .before .before .before .before .before .before .before .before .before .before .before .before .before .before .before .before .before .before .before
 
 abbrev start : tie.After-serve → tie.Start
-start c = c .before .before .before .before .before .before .before .before .before .before .before .before .before .before .before .before .before
+start c = c .before .before .before .before .before .before .before .before .before .before .before .before .before .before .before .before
 
 serve-requires : tie.Need-serve-requires
 serve-requires c κs =
-    let pre = c .before .before .before .before .before .before .before .before .before .before .before .before .before .before .before .before .pre in
+    let pre = c .before .before .before .before .before .before .before .before .before .before .before .before .before .before .before .pre in
     (pre .admitted, (pre .bytes, (pre .few, (pre .status-long, (pre .lifted-long, pre .redone-long)))))
 
 copy-sheet-requires : tie.Need-copy-sheet-requires
@@ -38,9 +40,11 @@ copy-sheet-requires c κs =
 
 copy-rows-requires : tie.Need-copy-rows-requires
 copy-rows-requires c κs =
-    let pre = start (c .before .before .before .before .before .before .before .before .before .before .before .before .before .before .before .before .before .before .before) .pre in
+    let served = c .before .before .before .before .before .before .before .before .before .before .before .before .before .before .before .before .before .before .before in
+    let pre = start served .pre in
     let small = pre .admitted .table .small in
-    (omega (arith, small, pre .anchored-long), omega (arith, small, pre .followers-long), omega (arith, small, pre .stamps-long))
+    let right = served .serve .ensures .0 .right in
+    ((omega (arith, small, pre .anchored-long), omega (arith, small, pre .yields-long), omega (arith, small, pre .stamps-long)), λ v h. right-small right v (omega (arith, pre .yields-long)))
 
 same-length : tie.Need-same-length
 same-length c = rows-copied c .copy-rows .kept .1 .0
@@ -77,12 +81,12 @@ returns c =
     let sheet = sheet-copied c .copy-sheet .ensures in
     let rows = rows-copied c .copy-rows .ensures in
     same-slices
-    (copied-out _ (kept .anchored) _ _ _ (rows .0) (pre .anchored-long) (end-anchored (end .0)))
-    (copied-out _ (kept .columns .level) _ _ _ (sheet .0) (pre .levels-long) (end-columns (end .0) .levels))
-    (copied-out _ (kept .columns .layer) _ _ _ (sheet .1 .0) (pre .layers-long) (end-columns (end .0) .layers))
-    (copied-out _ (kept .columns .component) _ _ _ (sheet .1 .1) (pre .components-long) (end-columns (end .0) .components))
-    (copied-out _ (kept .followers) _ _ _ (rows .1 .0) (pre .followers-long) (end-counts (end .0)))
-    (copied-out _ (kept .stamp) _ _ _ (rows .1 .1) (pre .stamps-long) (end .0 .stands .stamps))
+    (copied-out _ _ _ _ _ (rows .0) (pre .anchored-long) (end-anchored (end .0)))
+    (copied-out _ _ _ _ _ (sheet .0) (pre .levels-long) (end-columns (end .0) .levels))
+    (copied-out _ _ _ _ _ (sheet .1 .0) (pre .layers-long) (end-columns (end .0) .layers))
+    (copied-out _ _ _ _ _ (sheet .1 .1) (pre .components-long) (end-columns (end .0) .components))
+    (copied-out _ _ _ _ _ (rows .1 .0) (pre .yields-long) (end-yields (end .0)))
+    (copied-out _ _ _ _ _ (rows .1 .1) (pre .stamps-long) (end .0 .stands .stamps))
     (end .1 .0)
     (end .1 .1 .0)
     (end .1 .1 .1)
