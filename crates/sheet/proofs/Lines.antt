@@ -11,8 +11,10 @@ use Rattle.finite.proofs.Count.{length-tabulate}
 use Rattle.finite.proofs.Bytes.{valueFrom, decimal-length}
 use Rattle.sheet.specs.Written.{Written}
 use Rattle.sheet.specs.Line.{twoDigits, fourDigits, nameOf, retainPart, marksPart, lineOf, Round, sheetFrom, sheetOf, refusedLine}
+use Rattle.sheet.specs.Parted.{Parted}
 use Rattle.sheet.specs.declared.line.Chosen.{Chosen}
 use Rattle.sheet.specs.declared.line.Chosen.the-variants.{Vertex, Nobody}
+use Rattle.sheet.specs.declared.line.Units.{Units}
 use Rattle.sheet.proofs.Written.{written-then}
 
 -- ---- a line
@@ -73,6 +75,17 @@ four-says v h =
     let hundreds : v / 1000 * 10 + v / 100 % 10 ≡ v / 100 = omega arith in
     let tens : v / 100 * 10 + v / 10 % 10 ≡ v / 10 = omega arith in
     omega arith
+
+-- a number's last four digits are its thousands, hundreds, tens and ones, once its ten thousands are taken off
+pub four-parted : {v : ℕ} {beyond thousands hundreds tens : Units} → Parted v 10000 beyond → Parted (beyond .rest) 1000 thousands
+    → Parted (thousands .rest) 100 hundreds → Parted (hundreds .rest) 10 tens
+    → fourDigits v ≡ (48 + thousands .count) ∷ (48 + hundreds .count) ∷ (48 + tens .count) ∷ (48 + tens .rest) ∷ []
+four-parted {v} {beyond} {thousands} {hundreds} {tens} p q r s =
+    let first : v / 1000 % 10 ≡ thousands .count = omega arith in
+    let second : v / 100 % 10 ≡ hundreds .count = omega arith in
+    let third : v / 10 % 10 ≡ tens .count = omega arith in
+    let fourth : v % 10 ≡ tens .rest = omega arith in
+    rw (first, second, third, fourth)
 
 -- numbers of 64 bits have at most 20 digits, so a refusal takes at most 52 bytes
 pub decimal-short : (v : ℕ) → v < 2 ^ 64 → length (decimal v) ≤ 20

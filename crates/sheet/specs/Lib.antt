@@ -1,3 +1,4 @@
 pub mod Written
 pub mod Line
+pub mod Parted
 pub mod Cases

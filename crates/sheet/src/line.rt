@@ -1,13 +1,14 @@
 // Writing the lines of the answer sheet, and the line of a refusal, into lent bytes.
-// Each function answers the place after what it wrote.
+// Each writer answers the place after what it wrote.
 ghost use mathlib.Core.Path.{_≡_};
 ghost use mathlib.Core.List.{[], _∷_, _++_};
-ghost use Prim.Native.Nat.{_+_, _≤_};
+ghost use Prim.Native.Nat.{_+_, _≤_, _<_};
 ghost use lib.ListN.{length};
 ghost use lib.Dec.{eqb};
 ghost use Rattle.finite.specs.Moments.{old, final};
 ghost use Rattle.finite.specs.Bytes.{digit, decimal};
 ghost use Rattle.sheet.specs.Written.{Written};
+ghost use Rattle.sheet.specs.Parted.{Parted};
 ghost use Rattle.sheet.specs.Line.{twoDigits, fourDigits, sign, liftedBy, signs, nameOf};
 ghost use Rattle.sheet.specs.Line.{roundPart, retainPart, marksPart, redonePart, lineOf, refusedLine};
 
@@ -159,16 +160,41 @@ fn put_two(out: &mut [u8], at: usize, v: u16) -> usize
     at + 2
 }
 
-// The writer of every field of four digits.
-fn put_four(out: &mut [u8], at: usize, v: u16) -> usize
+// The writer of every field of four digits, by comparison and subtraction: for a handset that does not divide. A field has the number's
+// last four digits, so ten thousands are taken off first.
+pub fn put_four(out: &mut [u8], at: usize, v: u16) -> usize
     requires { ⌜ at + 4 ≤ length (now out) ⌝ }
     ensures { λ r. ⌜ Written (old out) at (fourDigits v) (final out) r ⌝ }
 {
-    out[at] = b'0' + (v / 1000 % 10) as u8;
-    out[at + 1] = b'0' + (v / 100 % 10) as u8;
-    out[at + 2] = b'0' + (v / 10 % 10) as u8;
-    out[at + 3] = b'0' + (v % 10) as u8;
+    let beyond = take_units(v, 10000);
+    let thousands = take_units(beyond.rest, 1000);
+    let hundreds = take_units(thousands.rest, 100);
+    let tens = take_units(hundreds.rest, 10);
+    out[at] = b'0' + thousands.count as u8;
+    out[at + 1] = b'0' + hundreds.count as u8;
+    out[at + 2] = b'0' + tens.count as u8;
+    out[at + 3] = b'0' + tens.rest as u8;
     at + 4
+}
+
+// A number as so many units and a rest.
+struct Units {
+    count: u16,
+    rest: u16,
+}
+
+// Takes units off a number until less than one is left.
+fn take_units(v: u16, unit: u16) -> Units
+    requires { ⌜ 0 < unit ⌝ }
+    ensures { λ r. ⌜ Parted v unit r ⌝ }
+{
+    let mut count: u16 = 0;
+    let mut rest = v;
+    while unit <= rest {
+        rest -= unit;
+        count += 1;
+    }
+    Units { count, rest }
 }
 
 // Copies a text.

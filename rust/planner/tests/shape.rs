@@ -3,7 +3,7 @@
 
 mod source;
 
-use source::{file, root, Read, Reader};
+use source::{file, functions, root, Function, Read};
 use std::path::Path;
 
 const LINE: usize = 200;
@@ -16,54 +16,6 @@ const MANY_PARAMETERS: [(&str, &str); 3] = [
     ("session::run::run", "document 01 fixes the slices that a session is lent"),
     ("session::run::write", "it fills the slices that a session is lent"),
 ];
-
-struct Function {
-    line: usize,
-    name: String,
-    parameters: usize,
-    body: usize,
-}
-
-/// Goes past what stands between two signs, which may stand in it in pairs; how many parts commas make of it.
-fn parts(reader: &mut Reader, open: &str, close: &str) -> Read<usize> {
-    reader.expect(open)?;
-    let (mut depth, mut parts, mut is_open) = (0, 0, false);
-    while depth > 0 || reader.peek() != close {
-        let token = reader.next()?;
-        depth += ["(", "["].contains(&token) as usize;
-        depth -= [")", "]"].contains(&token) as usize;
-        let comma = token == "," && depth == 0;
-        parts += (!comma && !is_open) as usize;
-        is_open = !comma;
-    }
-    reader.expect(close)?;
-    Ok(parts)
-}
-
-/// `fn` has been read.
-fn function(reader: &mut Reader) -> Read<Function> {
-    let (line, name) = (reader.line(), reader.word()?.to_owned());
-    if reader.peek() == "<" {
-        parts(reader, "<", ">")?;
-    }
-    let parameters = parts(reader, "(", ")")?;
-    while !["requires", "ensures", "{"].contains(&reader.peek()) {
-        reader.next()?;
-    }
-    reader.contract()?;
-    Ok(Function { line, name, parameters, body: reader.block()? })
-}
-
-/// The functions of a file.
-fn functions(path: &str, source: &str) -> Read<Vec<Function>> {
-    let (mut reader, mut functions) = (Reader::new(path, source), vec![]);
-    while !reader.is_done() {
-        if reader.next()? == "fn" {
-            functions.push(function(&mut reader)?);
-        }
-    }
-    Ok(functions)
-}
 
 /// `crates/a/src/b.rt` is `a::b`, and the root `crates/a/src/lib.rt` is `a`.
 fn module(path: &str) -> String {
@@ -79,10 +31,10 @@ fn violations(path: &str, source: &str) -> Read<Vec<String>> {
     let long = source.lines().map(|line| line.chars().count()).enumerate().filter(|&(_, length)| length > LINE);
     let mut told: Vec<String> =
         long.map(|(i, length)| format!("{path}:{}: a line of {length} characters, more than {LINE}", i + 1)).collect();
-    for Function { line, name, parameters, body } in functions(path, source)? {
+    for Function { line, name, parameters, lines, .. } in functions(path, source)? {
         let name = format!("{}::{name}", module(path));
-        if body > BODY {
-            told.push(format!("{path}:{line}: {name} has a body of {body} lines, more than {BODY}"));
+        if lines > BODY {
+            told.push(format!("{path}:{line}: {name} has a body of {lines} lines, more than {BODY}"));
         }
         let is_excepted = MANY_PARAMETERS.iter().any(|(excepted, _)| *excepted == name);
         match (parameters > PARAMETERS, is_excepted) {

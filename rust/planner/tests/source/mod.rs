@@ -177,4 +177,57 @@ impl<'a> Reader<'a> {
         }
         Ok(())
     }
+
+    /// Goes past what stands between two signs, which may stand in it in pairs; how many parts commas make of it.
+    fn parts(&mut self, open: &str, close: &str) -> Read<usize> {
+        self.expect(open)?;
+        let (mut depth, mut parts, mut is_open) = (0, 0, false);
+        while depth > 0 || self.peek() != close {
+            let token = self.next()?;
+            depth += ["(", "["].contains(&token) as usize;
+            depth -= [")", "]"].contains(&token) as usize;
+            let comma = token == "," && depth == 0;
+            parts += (!comma && !is_open) as usize;
+            is_open = !comma;
+        }
+        self.expect(close)?;
+        Ok(parts)
+    }
+
+    /// A function in Rattle, of which `fn` has been read.
+    fn function(&mut self) -> Read<Function<'a>> {
+        let (line, name) = (self.line(), self.word()?);
+        if self.peek() == "<" {
+            self.parts("<", ">")?;
+        }
+        let parameters = self.parts("(", ")")?;
+        while !["requires", "ensures", "{"].contains(&self.peek()) {
+            self.next()?;
+        }
+        self.contract()?;
+        let start = self.at;
+        let lines = self.block()?;
+        let body = self.tokens[start..self.at].iter().map(|token| token.text).collect();
+        Ok(Function { line, name, parameters, lines, body })
+    }
+}
+
+/// A function in Rattle: its body as tokens, its braces among them, and on how many lines.
+pub struct Function<'a> {
+    pub line: usize,
+    pub name: &'a str,
+    pub parameters: usize,
+    pub lines: usize,
+    pub body: Vec<&'a str>,
+}
+
+/// The functions of a file in Rattle.
+pub fn functions<'a>(path: &'a str, source: &'a str) -> Read<Vec<Function<'a>>> {
+    let (mut reader, mut functions) = (Reader::new(path, source), vec![]);
+    while !reader.is_done() {
+        if reader.next()? == "fn" {
+            functions.push(reader.function()?);
+        }
+    }
+    Ok(functions)
 }
