@@ -17,12 +17,19 @@ fn every_number() {
     assert!(file("crates/four_digits/stdout") == numbers);
 }
 
-/// Whom a body calls: a method with the point before it, a function of another module with the colon. Variants, which have a capital, are
-/// not called.
+/// What may be called and is no function of the file: a slice's length, and a variant with its value.
+const KNOWN: [&str; 2] = [".len", "Chosen::Vertex"];
+
+/// Whom a body calls: every word before a `(`, a method with its point, and what has a path with the end of that.
 fn calls(body: &[&str]) -> Vec<String> {
-    let is_call = |word: &str, next: &str| next == "(" && word.starts_with(|c: char| c.is_lowercase() || c == '_');
-    let found = body.windows(3).filter(|near| is_call(near[1], near[2]));
-    found.map(|near| if [".", ":"].contains(&near[0]) { near[..2].concat() } else { near[1].into() }).collect()
+    let is_word = |token: &str| token.starts_with(|c: char| c.is_alphabetic() || c == '_');
+    let places = (1..body.len()).filter(|&i| body[i] == "(" && is_word(body[i - 1]));
+    let called = |i: usize| match body[..i] {
+        [.., ".", name] => format!(".{name}"),
+        [.., path, ":", ":", name] => format!("{path}::{name}"),
+        _ => body[i - 1].to_string(),
+    };
+    places.map(called).collect()
 }
 
 /// These functions of a file and all that they call; or one that divides, or that the file does not have.
@@ -30,7 +37,7 @@ fn undivided(functions: &[Function], from: &[&str]) -> Result<Vec<String>, Strin
     let mut waiting: Vec<String> = from.iter().map(|name| name.to_string()).collect();
     let mut reached = vec![];
     while let Some(name) = waiting.pop() {
-        if name == ".len" || reached.contains(&name) {
+        if KNOWN.contains(&name.as_str()) || reached.contains(&name) {
             continue;
         }
         let Some(function) = functions.iter().find(|function| function.name == name) else {
@@ -58,15 +65,16 @@ fn no_division() {
 fn divisions() {
     let told = |a: &str, c: &str| {
         let a = format!("fn a(v: u16) -> u16\n    ensures {{ λ r. ⌜ r ≡ v / 10 ⌝ }}\n{{\n    {a}\n}}\n");
-        let source = format!("{a}fn b(s: &[u8]) {{ c(s.len(), '%') }}\nfn c() {{ {c} }}\nfn d() {{ 1 / 2 }}\n");
+        let source = format!("{a}fn b(s: &[u8]) {{ c(s.len(), '%') }}\nfn c() {{ {c} }}\nfn D() {{ 1 / 2 }}\n");
         undivided(&functions("e.rt", &source).unwrap(), &["a"]).map(|reached| reached.join(" "))
     };
     let wrong = |sentence: &str| Err(sentence.to_string());
-    assert_eq!(told("v - 1 // v / 10", "d()"), Ok("a".into()));
-    assert_eq!(told("match b(\"/\") { Units::Ten(x) => b(b'/') }", "a(0) - d"), Ok("a b c".into()));
+    assert_eq!(told("v - 1 // v / 10", "D()"), Ok("a".into()));
+    assert_eq!(told("match b(\"/\") { Chosen::Vertex(x) => b(b'/') }", "a(0) - D"), Ok("a b c".into()));
     assert_eq!(told("v / 10", ""), wrong("a has /"));
     assert_eq!(told("b(v)", "v %= 10"), wrong("c has %"));
-    assert_eq!(told("if b(v) { b(v) }", "d()"), wrong("d has /"));
-    assert_eq!(told("b(v)", "other::a(v)"), wrong(":a is not in the file"));
+    assert_eq!(told("if b(v) { b(v) }", "D(v)"), wrong("D has /"));
+    assert_eq!(told("b(v)", "other::a(v)"), wrong("other::a is not in the file"));
+    assert_eq!(told("b(v)", "Units::D(v)"), wrong("Units::D is not in the file"));
     assert_eq!(told("b(v)", "v.b()"), wrong(".b is not in the file"));
 }
