@@ -69,23 +69,34 @@ static void sheet(void)
     tell("check_sheet with a layer of 9", planner_check_sheet(starts, 5, links, 6, retained, 4, levels, 4, layers, 4));
 }
 
-/* Names 3 and 9, of which 9 is no rider: 1 and 2 climb a level, and would give it up were they retained themselves. */
+/*
+ * A week of events, rider 0 being retained. 3 is retained: 1 and 2 climb a level. 0 and 2 become partners, 1 and 2 part: 1 falls again.
+ * Parting them once more is refused, and so is retaining 9, who is no rider.
+ */
 static void session(void)
 {
-    static const uint16_t names[] = {3, 9};
+    static const uint16_t kinds[] = {0, 1, 2, 2, 0}, firsts[] = {3, 0, 1, 2, 9}, seconds[] = {0, 2, 2, 1, 0};
+    static uint16_t lent_links[16384];
+    uint16_t lent_starts[5];
     uint8_t anchored[4] = {0};
     uint16_t levels[4] = {0}, layers[4] = {0}, components[4] = {0}, stamps[4] = {0};
     int16_t yields[4] = {0};
-    uint16_t status[2] = {0}, lifted[2] = {0}, redone[2] = {0};
-    tell("run", planner_run(starts, 5, links, 6, retained, 4, names, 2, anchored, 4, levels, 4, layers, 4, components, 4,
-                            yields, 4, stamps, 4, status, 2, lifted, 2, redone, 2));
+    uint16_t status[5] = {0}, lifted[5] = {0}, redone[5] = {0};
+    memcpy(lent_starts, starts, sizeof starts);
+    memcpy(lent_links, links, sizeof links);
+    tell("run", planner_run(lent_starts, 5, lent_links, 16384, retained, 4, kinds, 5, firsts, 5, seconds, 5, anchored, 4, levels, 4,
+                            layers, 4, components, 4, yields, 4, stamps, 4, status, 5, lifted, 5, redone, 5));
+    numbers("starts", lent_starts, 5);
+    numbers("links", lent_links, lent_starts[4]);
     bytes("anchored", anchored, 4);
     numbers("levels", levels, 4);
+    numbers("layers", layers, 4);
+    numbers("components", components, 4);
     signed_numbers("yields", yields, 4);
     numbers("stamps", stamps, 4);
-    numbers("status", status, 2);
-    numbers("lifted", lifted, 2);
-    numbers("redone", redone, 2);
+    numbers("status", status, 5);
+    numbers("lifted", lifted, 5);
+    numbers("redone", redone, 5);
 }
 
 /* A text of two riders and one round, with room enough for its sheet and with none. */

@@ -1,6 +1,6 @@
 /*
  * The planner: a pool of riders and their partners as a graph. It works out levels of the anchored k-core, checks them, tells whom one
- * more anchor lifts and whom a vertex takes down, works down a list of names, and turns a text into a sheet of rounds.
+ * more anchor lifts and whom a vertex takes down, works down a list of events, and turns a text into a sheet of rounds.
  *
  * For C99 and C++ on x86-64 Linux, with the archive libplanner_c.a (README.md says how to make it and link with it). Every function is
  * proved to answer, and to leave in the memory lent to it, exactly what is defined, whatever the numbers that it is handed, if the caller
@@ -52,15 +52,16 @@
  *   number  place            what is wrong
  *    1      0                starts has no element
  *    2      0                there are more than 1,024 vertices
- *    3      0                there are more than 16,384 links; in a text, more than 16,384 partners in all lists together
- *    4      index in starts  the first start is not 0, a start is below the one before it, or the last is not links_len
+ *    3      0                there are more than 16,384 links; in a session, the last start is above 16,384; in a text, there are more
+ *                            than 16,384 partners in all lists together
+ *    4      index in starts  the first start is not 0, a start is below the one before it, or, but for a session, the last is not links_len
  *    5      vertex           it has a neighbor of n or more
  *    6      vertex           it is its own neighbor
  *    7      vertex           its neighbors are not strictly ascending
  *    8      vertex           it lists a neighbor that does not list it
- *    9      0                there are not n anchored bytes
+ *    9      0                there are not n anchored bytes; in a session also: kinds, firsts and seconds are not of one length
  *   10      vertex           its byte is above 1
- *   11      0                there are more than 4,096 requests; in a text, more than 60 rounds
+ *   11      0                there are more than 4,096 events; in a text, more than 60 rounds
  *   12      0                a slice lent for writing does not have the length stated with the call; for a text, holds less than its sheet
  *   13      0                levels or layers are not n
  *   14      vertex           it is anchored and its entry is not 65,535 and 0, or it is not anchored and its layer is 0
@@ -102,7 +103,8 @@ typedef struct planner_sheeted {
 } planner_sheeted;
 
 /*
- * Whether two slices are the table of a graph. All calls but the last take a table and test it first in this way.
+ * Whether two slices are the table of a graph. All calls but the last take a table and test it first in this way; planner_run, which
+ * changes it, is lent more places than it has links.
  *
  *   starts  n + 1 numbers, the first 0: the neighbors of vertex v are links[starts[v]] up to, not including, links[starts[v + 1]]
  *   links   at most 16,384 numbers: the neighbors of all vertices, list after list, each list strictly ascending, each edge in two lists
@@ -195,36 +197,50 @@ planner_answer planner_collapse(
     const uint16_t *levels, size_t levels_len, const uint16_t *layers, size_t layers_len, size_t x, uint8_t *marks, size_t marks_len);
 
 /*
- * A session: anchors the requested vertices one after the other, each on what the one before left, and keeps every vertex's net yield right
- * by working out anew exactly those that the step may have changed. The sum of the climbs of all vertices not anchored grows by the net
- * yields of the vertices that it anchors, each as it was just before.
+ * A session: takes events one after the other, each on what the one before left. An event anchors a vertex (retains a rider), or adds or
+ * drops an edge (a pair). Every vertex's net yield is kept right by working out anew exactly those that the event may have changed. So
+ * long as no edge changes, the sum of the climbs of all vertices not anchored grows by the net yields of the vertices that are anchored,
+ * each as it was just before. An edge more or less moves no level and no bare level by more than one.
  *
- *   starts, links  the table
+ *   starts         n + 1 numbers, the table's; filled: those of the table as the events left it
+ *   links          exactly 16,384 places. As many as the last start says are the table's links, the others may hold anything. Filled: the
+ *                  links of the table as the events left it, and 0 in every place past its last start
  *   given          n bytes: who is anchored at the start
- *   requests       at most 4,096 numbers (names): whom to anchor, in this order
+ *   kinds          at most 4,096 numbers, the kind of each event: 0 anchors vertex firsts[i], 1 adds the edge between firsts[i] and
+ *                  seconds[i], 2 drops that edge
+ *   firsts         a number for each event: a vertex
+ *   seconds        a number for each event: the other vertex of the edge; of an event that anchors it is ignored
  *   anchored       filled, n bytes: who is anchored at the end
  *   levels         filled, n numbers: the levels at the end
  *   layers         filled, n numbers: the layers at the end
  *   components     filled, n numbers: the components at the end
  *   yields         filled, n numbers: the net yield of each vertex at the end, its followers less what it has already climbed above its
  *                  level with nobody anchored; -32,768 for an anchored one
- *   stamps         filled, n numbers: the position, from 1, of the last request that anchored the vertex or had its net yield worked out
+ *   stamps         filled, n numbers: the position, from 1, of the last event that anchored the vertex or had its net yield worked out
  *                  anew; 0 if none did
- *   status         filled, a number for each request: 0 if it was done; 15 if it names no vertex, 16 if that vertex was anchored already.
- *                  A request with 15 or 16 changes nothing, and the session goes on
- *   lifted         filled, a number for each request: how many vertices it lifted; 0 if its status is not 0
- *   redone         filled, a number for each request: of how many vertices the net yield was worked out anew after it, the newly anchored
- *                  one not counted; 0 if its status is not 0
+ *   status         filled, a number for each event: 0 if it was done, else the first of these that holds. Such an event changes nothing,
+ *                  and the session goes on.
+ *                    10: its kind is above 2
+ *                     6: it adds or drops an edge between a number and itself
+ *                    15: it names a number of n or more; seconds[i] of an event that anchors is not looked at
+ *                    16: it anchors a vertex that is anchored already
+ *                    22: it adds an edge that is there, or drops one that is not
+ *                    23: it adds an edge, and there is no place for two more links
+ *   lifted         filled, a number for each event: how many vertices it lifted by anchoring one; 0 if it adds or drops an edge, or its
+ *                  status is not 0
+ *   redone         filled, a number for each event: of how many vertices the net yield was worked out anew after it, a newly anchored one
+ *                  not counted; 0 if its status is not 0
  *
  * Accepted: states no value.
- * Refused: 1 to 8, 9, 10, 11, 12; the bytes of 9 and 10 are given.
+ * Refused: 1, 2, 12 (links), 3, 4, 5, 6, 7, 8, 9, 10, 11, 12 (the slices from anchored on); the bytes of 9 and 10 are given, the links of 4
+ * to 8 are those up to the last start.
  */
 planner_answer planner_run(
-    const uint16_t *starts, size_t starts_len, const uint16_t *links, size_t links_len, const uint8_t *given, size_t given_len,
-    const uint16_t *requests, size_t requests_len, uint8_t *anchored, size_t anchored_len, uint16_t *levels, size_t levels_len,
-    uint16_t *layers, size_t layers_len, uint16_t *components, size_t components_len, int16_t *yields, size_t yields_len,
-    uint16_t *stamps, size_t stamps_len, uint16_t *status, size_t status_len, uint16_t *lifted, size_t lifted_len,
-    uint16_t *redone, size_t redone_len);
+    uint16_t *starts, size_t starts_len, uint16_t *links, size_t links_len, const uint8_t *given, size_t given_len,
+    const uint16_t *kinds, size_t kinds_len, const uint16_t *firsts, size_t firsts_len, const uint16_t *seconds, size_t seconds_len,
+    uint8_t *anchored, size_t anchored_len, uint16_t *levels, size_t levels_len, uint16_t *layers, size_t layers_len,
+    uint16_t *components, size_t components_len, int16_t *yields, size_t yields_len, uint16_t *stamps, size_t stamps_len,
+    uint16_t *status, size_t status_len, uint16_t *lifted, size_t lifted_len, uint16_t *redone, size_t redone_len);
 
 /*
  * From a text to the answer sheet. docs/FORMAT.md describes both.

@@ -23,9 +23,9 @@ use Rattle.anchored.specs.Graph.{Graph, Simple}
 use Rattle.anchored.specs.Core.{level, layer}
 use Rattle.anchored.specs.Component.{component}
 use Rattle.anchored.specs.Followers.{adding, follows, followers, followerCount, candidates, reached, mark}
-use Rattle.anchored.specs.Yield.{least, net, netYield}
+use Rattle.anchored.specs.Yield.{least, nobody, net, netYield}
 use Rattle.anchored.specs.Step.{recomputed}
-use Rattle.anchored.specs.Session.{Plain, statusOf, rowOf, turn, after}
+use Rattle.anchored.specs.Session.{Plain, stale, statusOf, rowOf, turn, after}
 use Rattle.anchored.proofs.Core.{level-anchored}
 use Rattle.anchored.proofs.Anchor.{free-of, other-of, free-adding, level-rises, level-by-one}
 use Rattle.anchored.proofs.Step.{kept-followers, kept-net, kept-reached}
@@ -57,7 +57,7 @@ module _ (G : Graph) where
   module _ (S : Plain) (x : ℕ) where
     -- what a request leaves, accepted and refused
     pub turn-accepted : (position : ℕ) → statusOf G (S .anchors) x ≡ 0
-        → turn G position x S ≡ record { anchors = adding (S .anchors) x; stamps = λ v. cond (eqb x v || recomputed G (S .anchors) (adding (S .anchors) x) v) position (S .stamps v) }
+        → turn G position x S ≡ record { anchors = adding (S .anchors) x; stamps = λ v. cond (eqb x v || stale G (S .anchors) x v) position (S .stamps v) }
     unfolding turn
     turn-accepted position e = rw (eq-eqb (statusOf G (S .anchors) x) 0 e)
 
@@ -67,7 +67,7 @@ module _ (G : Graph) where
 
     -- the numbers it reports
     pub row-accepted : statusOf G (S .anchors) x ≡ 0
-        → rowOf G S x ≡ record { status = 0; lifted = followers G (S .anchors) x; redone = count (recomputed G (S .anchors) (adding (S .anchors) x)) (below (G .size)) }
+        → rowOf G S x ≡ record { status = 0; lifted = followers G (S .anchors) x; redone = count (stale G (S .anchors) x) (below (G .size)) }
     unfolding rowOf
     row-accepted e = rw (eq-eqb (statusOf G (S .anchors) x) 0 e)
 
@@ -189,7 +189,7 @@ module _ (G : Graph) where
 
   -- a number of a row after x is accepted: the fixed one for x, worked out anew where recomputed, else kept
   abbrev pub renewed : {X : Type 0} → X → (ℕ → Bool) → ℕ → (ℕ → X) → (ℕ → X) → ℕ → X
-  renewed top A x anew old v = cond (eqb x v) top (cond (recomputed G A (adding A x) v) (anew v) (old v))
+  renewed top A x anew old v = cond (eqb x v) top (cond (stale G A x v) (anew v) (old v))
 
   -- what request x leaves when it is accepted
   unfoldable pub keepAccepted : ℕ → ℕ → Kept → Kept
@@ -201,7 +201,7 @@ module _ (G : Graph) where
     counts = renewed 65535 A x (followers G (adding A x)) (K .counts);
     nets = renewed least A x (net G (adding A x)) (K .nets);
     reaches = renewed 65535 A x (reached G (adding A x)) (K .reaches);
-    stamps = λ v. cond (eqb x v || recomputed G A (adding A x) v) position (K .stamps v);
+    stamps = λ v. cond (eqb x v || stale G A x v) position (K .stamps v);
   }
 
   unfoldable pub keepTurn : ℕ → ℕ → Kept → Kept
@@ -225,7 +225,7 @@ pub record Agrees (G : Graph) (K J : Kept) : Type 0 where
 
 module _ {X : Type 0} (top : X) (G : Graph) (A : ℕ → Bool) (x : ℕ) where
   -- where the rows that are not recomputed keep their number, a renewed number is the fresh one
-  pub renewed-fresh : (number : (ℕ → Bool) → ℕ → X) (v : ℕ) → (T (not (adding A x v)) → T (not (recomputed G A (adding A x) v)) → number A v ≡ number (adding A x) v)
+  pub renewed-fresh : (number : (ℕ → Bool) → ℕ → X) (v : ℕ) → (T (not (adding A x v)) → T (not (stale G A x v)) → number A v ≡ number (adding A x) v)
       → renewed G top A x (number (adding A x)) (rowNumber top A (number A)) v ≡ rowNumber top (adding A x) (number (adding A x)) v
   unfolding recomputed
   renewed-fresh number v same = split (adding A x v)
@@ -234,9 +234,9 @@ module _ {X : Type 0} (top : X) (G : Graph) (A : ℕ → Bool) (x : ℕ) where
       (λ e. or-e (A v) _ t (λ a. rw (false-of (eqb x v) e, true-of (A v) a)) (λ q. absurd (T-not (eqb x v) e q)))))
       (λ t.
       let other = ne-eqb x v (other-of A x v t) in
-      split (recomputed G A (adding A x) v)
-      (λ r. rw (true-of (recomputed G A (adding A x) v) r, false-of (adding A x v) t, other))
-      (λ r. rw (false-of (recomputed G A (adding A x) v) r, false-of (adding A x v) t, other, false-of (A v) (free-of A x v t)) (same t r)))
+      split (stale G A x v)
+      (λ r. rw (true-of (stale G A x v) r, false-of (adding A x v) t, other))
+      (λ r. rw (false-of (stale G A x v) r, false-of (adding A x v) t, other, false-of (A v) (free-of A x v t)) (same t r)))
 
 module _ (G : Graph) (L : Simple G) where
   lifted-fresh : (A : ℕ → Bool) (x v : ℕ) → v < G .size → cond (eqb x v) 65535 (level G A v + bit (eqb (mark G A x v) 2)) ≡ level G (adding A x) v
@@ -244,7 +244,7 @@ module _ (G : Graph) (L : Simple G) where
       (λ e. rw (true-of (eqb x v) e) (sym (level-anchored G L (adding A x) v (or-r (A v) _ e))))
       (λ e. rw (false-of (eqb x v) e) (sym (level-lifted G L A x v b (λ q. neqb x v e (sym q)))))
 
-  accepted-agrees : (position x : ℕ) (K : Kept) (S : Plain) → Agrees G K (fresh G S) → statusOf G (S .anchors) x ≡ 0 → Agrees G (keepAccepted G position x K) (fresh G (turn G position x S))
+  pub accepted-agrees : (position x : ℕ) (K : Kept) (S : Plain) → Agrees G K (fresh G S) → statusOf G (S .anchors) x ≡ 0 → Agrees G (keepAccepted G position x K) (fresh G (turn G position x S))
   unfolding keepAccepted followerCount netYield
   accepted-agrees position x K S H e =
       let same : K .anchors ≡ S .anchors = H .anchors in
@@ -254,9 +254,9 @@ module _ (G : Graph) (L : Simple G) where
         levels = λ v b. rw (same, H .levels v b) (lifted-fresh A x v b);
         layers = λ v b. rw same;
         components = λ v b. rw same;
-        counts = λ v b. rw (same, H .counts v b) (renewed-fresh 65535 G A x (followers G) v (λ t r. kept-followers G L A x v b t r));
-        nets = λ v b. rw (same, H .nets v b) (renewed-fresh least G A x (net G) v (λ t r. kept-net G L A x v b t r));
-        reaches = λ v b. rw (same, H .reaches v b) (renewed-fresh 65535 G A x (reached G) v (λ t r. kept-reached G L A x v b t r));
+        counts = λ v b. rw (same, H .counts v b) (renewed-fresh 65535 G A x (followers G) v (λ t r. kept-followers G G L L refl A (adding A x) nobody v b (free-of A x v t) t refl r));
+        nets = λ v b. rw (same, H .nets v b) (renewed-fresh least G A x (net G) v (λ t r. kept-net G G L L refl A (adding A x) nobody v b (free-of A x v t) t refl r));
+        reaches = λ v b. rw (same, H .reaches v b) (renewed-fresh 65535 G A x (reached G) v (λ t r. kept-reached G G L L refl A (adding A x) nobody v b (free-of A x v t) t refl r));
         stamps = λ v b. rw (same, H .stamps v b);
       }
 

@@ -17,7 +17,7 @@ use Rattle.anchored.specs.Followers.{follows, followers, followerCount, 
 use Rattle.anchored.specs.Yield.{bareLevel, climb, net, netYield, climbed, best, choice}
 use Rattle.anchored.specs.Collapse.{falls, fallMark, exposed}
 use Rattle.anchored.specs.Sheet.{isDefined, misplaced, tooHigh, tooLow, tooLate, fits, isLocal}
-use Rattle.anchored.specs.Step.{above, undisturbed, seesDisturbed, seesNew, moved, recomputed}
+use Rattle.anchored.specs.Step.{above, sameInside, undisturbed, seesDisturbed, seesNew, moved, recomputed}
 use Rattle.anchored.specs.Session.{Row, statusOf, rowOf, turn, after, gained}
 
 -- the graph with these neighbors of 0, of 1, and so on
@@ -150,5 +150,5 @@ pub cases :
     × (collapse-of kite (among []) 1 ≡ (1 ∷ 0 ∷ 1 ∷ 0 ∷ []) ∷ (1 ∷ 1 ∷ 1 ∷ 0 ∷ []) ∷ [])
     × (collapse-of chain (among (0 ∷ 3 ∷ [])) 0 ≡ (0 ∷ 1 ∷ 1 ∷ 0 ∷ []) ∷ (0 ∷ 1 ∷ 1 ∷ 0 ∷ []) ∷ [])
     × (collapse-of star (among (1 ∷ [])) 1 ≡ (0 ∷ 0 ∷ 0 ∷ 0 ∷ []) ∷ (1 ∷ 0 ∷ 1 ∷ 1 ∷ []) ∷ [])
-unfolding tabulate below count sum any all firstFrom first largest select falling keep having rounds grow pairLe batch core level shell layer greater higher joins around component together heads componentSize ranked follows followers followerCount firstStep onward candidates reached mark bareLevel climb net netYield climbed best choice falls fallMark exposed isDefined misplaced tooHigh tooLow tooLate fits isLocal above undisturbed seesDisturbed seesNew moved recomputed statusOf rowOf turn after gained
+unfolding tabulate below count sum any all firstFrom first largest select falling keep having rounds grow pairLe batch core level shell layer greater higher joins around component together heads componentSize ranked follows followers followerCount firstStep onward candidates reached mark bareLevel climb net netYield climbed best choice falls fallMark exposed isDefined misplaced tooHigh tooLow tooLate fits isLocal above sameInside undisturbed seesDisturbed seesNew moved recomputed statusOf rowOf turn after gained
 cases = (refl, refl, refl, refl, refl, refl, refl, refl, refl, refl, refl, refl, refl, refl, refl, refl, refl, refl, refl, refl, refl, refl, refl, refl, refl, refl, refl, refl, refl, refl, refl, refl, refl, refl, refl, refl, refl, refl, refl, refl, refl, refl, refl, refl, refl, refl, refl)

@@ -8,7 +8,7 @@ use lib.IntN.{ℤ, pos, _+ℤ_}
 use Rattle.finite.specs.Count.{count, below}
 use Rattle.anchored.specs.Graph.{Graph}
 use Rattle.anchored.specs.Followers.{adding, followers}
-use Rattle.anchored.specs.Yield.{net}
+use Rattle.anchored.specs.Yield.{nobody, net}
 use Rattle.anchored.specs.Step.{recomputed}
 
 -- what the plain session keeps: the set of anchors, and a stamp for each vertex
@@ -23,6 +23,10 @@ pub record Row : Type 0 where
   pub redone : ℕ
 
 module _ (G : Graph) where
+  -- the rows that x, anchored too, makes stale: no edge changes
+  abbrev pub stale : (ℕ → Bool) → ℕ → ℕ → Bool
+  stale A x = recomputed G G A (adding A x) nobody
+
   -- 15 for no vertex, 16 for a vertex in the set, else 0
   unfoldable pub statusOf : (ℕ → Bool) → ℕ → ℕ
   statusOf A x = cond (ltb x (G .size)) (cond (A x) 16 0) 15
@@ -30,13 +34,13 @@ module _ (G : Graph) where
   -- the numbers of request x
   unfoldable pub rowOf : Plain → ℕ → Row
   rowOf S x = let A = S .anchors in cond (eqb (statusOf A x) 0)
-      (record { status = 0; lifted = followers G A x; redone = count (recomputed G A (adding A x)) (below (G .size)) })
+      (record { status = 0; lifted = followers G A x; redone = count (stale A x) (below (G .size)) })
       (record { status = statusOf A x; lifted = 0; redone = 0 })
 
   -- what request x at a position, from 1, leaves: x in the set, its row and the recomputed ones stamped
   unfoldable pub turn : ℕ → ℕ → Plain → Plain
   turn position x S = let A = S .anchors in cond (eqb (statusOf A x) 0)
-      (record { anchors = adding A x; stamps = λ v. cond (eqb x v || recomputed G A (adding A x) v) position (S .stamps v) })
+      (record { anchors = adding A x; stamps = λ v. cond (eqb x v || stale A x v) position (S .stamps v) })
       S
 
   -- the session after the first i requests

@@ -392,6 +392,20 @@ set-reads xs x y v h = split (eqb x v)
 
 -- ---- sum
 
+pub sum-append : (f : ℕ → ℕ) (l m : List ℕ) → sum f (l ++ m) ≡ sum f l + sum f m
+unfolding sum
+sum-append f [] m = omega arith
+sum-append f (u ∷ us) m = omega (arith, sum-append f us m)
+
+-- a loop over the numbers below a bound
+pub sum-below-zero : (f : ℕ → ℕ) → sum f (below 0) ≡ 0
+unfolding sum below tabulate
+sum-below-zero f = refl
+
+pub sum-below-more : (f : ℕ → ℕ) (i : ℕ) → sum f (below (i + 1)) ≡ sum f (below i) + f i
+unfolding sum below tabulate
+sum-below-more f i = rw add-one (sum-append f (below i) (i ∷ []) ∙ ap (λ (z : ℕ). sum f (below i) + z) (omega arith))
+
 -- sums that agree term by term, two against two
 pub sum-pairs : (f g h k : ℕ → ℕ) (l : List ℕ) → ((w : ℕ) → In w l → f w + g w ≡ h w + k w) → sum f l + sum g l ≡ sum h l + sum k l
 unfolding sum

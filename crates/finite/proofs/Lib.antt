@@ -5,6 +5,7 @@ pub mod Search
 pub mod Falling
 pub mod Sets
 pub mod Pairs
+pub mod Edits
 pub mod Signed
 pub mod Bytes
 pub mod Stores

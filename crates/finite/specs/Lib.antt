@@ -4,4 +4,5 @@ pub mod Sets
 pub mod Pairs
 pub mod Bytes
 pub mod Falling
+pub mod Edits
 pub mod Moments

@@ -1,18 +1,20 @@
-// A session over a list of requests. `claim` is demand 3 of document 01, of every call that answers 0.
+// A session over a list of events. `claim` is demand 3 of document 01, of every call that answers 0.
 ghost use mathlib.Core.Path.{_≡_};
 ghost use Rattle.finite.specs.Moments.{old, final};
 ghost use Rattle.table.specs.Guard.{answer, held};
-ghost use Rattle.session.specs.Run.{slices, runOf, ended};
+ghost use Rattle.session.specs.Run.{lists, slices, runOf, ended};
 ghost use Rattle.session.specs.Claim.{Claim};
 ghost use Rattle.numbers.specs.Numbers.{acceptedAs, refusedAs};
 use numbers::Answer;
 
 #[no_mangle]
 pub extern "C" fn planner_run(
-    starts: &[u16],
-    links: &[u16],
+    starts: &mut [u16],
+    links: &mut [u16],
     given: &[u8],
-    requests: &[u16],
+    kinds: &[u16],
+    firsts: &[u16],
+    seconds: &[u16],
     anchored: &mut [u8],
     levels: &mut [u16],
     layers: &mut [u16],
@@ -24,17 +26,20 @@ pub extern "C" fn planner_run(
     redone: &mut [u16],
 ) -> Answer
     ensures { λ r.
-        let lent = slices (old anchored) (old levels) (old layers) (old components) (old yields) (old stamps) (old status) (old lifted) (old redone) in
-        let after = slices (final anchored) (final levels) (final layers) (final components) (final yields) (final stamps) (final status) (final lifted) (final redone) in
-        let guard = runOf (old starts) (old links) (old given) (old requests) lent in
-        ⌜ (r ≡ answer guard (acceptedAs 0 0) refusedAs) × (after ≡ held guard (ended (old starts) (old links) (old given) (old requests)) lent) ⌝ }
-    ensures claim { λ r. ⌜ (r .number ≡ 0 → Claim (old starts) (old links) (old given) (old requests)) ⌝ }
+        let events = lists (old kinds) (old firsts) (old seconds) in
+        let lent = slices (old starts) (old links) (old anchored) (old levels) (old layers) (old components) (old yields) (old stamps) (old status) (old lifted) (old redone) in
+        let after = slices (final starts) (final links) (final anchored) (final levels) (final layers) (final components) (final yields) (final stamps) (final status) (final lifted) (final redone) in
+        let guard = runOf (old given) events lent in
+        ⌜ (r ≡ answer guard (acceptedAs 0 0) refusedAs) × (after ≡ held guard (ended (old starts) (old links) (old given) events) lent) ⌝ }
+    ensures claim { λ r. ⌜ (r .number ≡ 0 → Claim (old starts) (old links) (old given) (lists (old kinds) (old firsts) (old seconds))) ⌝ }
 {
     numbers::of_ran(session::run::run(
         starts,
         links,
         given,
-        requests,
+        kinds,
+        firsts,
+        seconds,
         anchored,
         levels,
         layers,

@@ -7,7 +7,7 @@ ghost use Rattle.finite.specs.Search.{first};
 ghost use Rattle.pool.specs.Input.{admitOf};
 
 // The first byte above 1, or the number of bytes.
-fn first_bad_byte(anchored: &[u8]) -> usize
+pub fn first_bad_byte(anchored: &[u8]) -> usize
     ensures { λ r. ⌜ r ≡ first (λ v. ltb 1 (getD (old anchored) v 0)) (length (old anchored)) ⌝ }
 {
     let mut v: usize = 0;

@@ -1,358 +1,289 @@
 -- Demand 3, proved of every call that is not refused. Assumes nothing.
-use mathlib.Core.Path.{_≡_, refl, sym, ap, ap₂, _∙_, subst, fun-ext}
-use mathlib.Core.Bool.{Bool, true, not, cond, _||_}
+use mathlib.Core.Path.{_≡_, refl, sym, ap, ap₂, _∙_, subst}
+use mathlib.Core.Bool.{Bool, not, cond, _&&_, _||_}
 use mathlib.Core.List.{List}
 use Prim.Native.Nat.{ℕ, zero, suc, _+_, _-_, _≤_, _<_}
+use native.Mathlib.Numerals.{add-one}
 use native.Mathlib.Omega.{arith}
-use lib.ListN.{length, take, getD, List·getD-eq-default}
+use lib.ListN.{take, getD}
 use lib.IntN.{ℤ, pos, _+ℤ_, _-ℤ_}
-use lib.Seq.{length-take-le, take-length}
-use lib.Dec.{T, ltb, eqb, leb, leb→le, nleb→lt, eqb→eq, eqb-refl, T-not, not-T}
-use borrow.Author.Tests.{ltb-false}
-use Rattle.finite.specs.Count.{bit, tabulate, count, below}
-use Rattle.finite.proofs.Tests.{or-l, or-r, split, true-of, false-of, neqb}
-use Rattle.finite.proofs.Count.{bit-le, bit-one, bit-byte, length-tabulate, tabulate-reads, tabulate-at, tabulate-cong, tabulate-self, count-cong, sum-cong, in-below}
-use Rattle.table.specs.Table.{vertices, checkOf}
-use Rattle.table.specs.Guard.{refused}
+use lib.Dec.{T, eqb, eqb→eq}
+use Rattle.finite.specs.Count.{bit, tabulate, sum, below}
+use Rattle.finite.proofs.Tests.{split, true-of, false-of}
+use Rattle.finite.proofs.Count.{bit-byte, tabulate-at, tabulate-cong, tabulate-self}
+use Rattle.table.specs.Table.{vertices}
 use Rattle.table.specs.declared.Guard.the-variants.{Passed}
-use Rattle.table.proofs.Guards.{both-passed}
-use Rattle.table.proofs.Laws.{went-on}
 use Rattle.anchored.specs.Graph.{Graph, Simple}
 use Rattle.anchored.specs.Core.{level, layer}
 use Rattle.anchored.specs.Component.{component}
-use Rattle.anchored.specs.Followers.{adding, followers, reached, mark}
-use Rattle.anchored.specs.Yield.{least, bareLevel, climb, net, netYield, climbed}
-use Rattle.anchored.specs.Step.{recomputed}
-use Rattle.anchored.specs.Session.{Plain, Row, statusOf, turn, rowOf, after, gained}
-use Rattle.anchored.proofs.Anchor.{free-adding}
-use Rattle.anchored.proofs.Session.{status-free, turn-accepted, turn-refused, row-accepted, row-refused, after-more, after-prefix, after-beyond, followers-marks, level-lifted}
-use Rattle.anchored.proofs.Step.{kept-net}
-use Rattle.anchored.proofs.Net.{climbed-grows}
-use Rattle.pool.specs.Input.{graphOf, anchoredBy, admitOf, Admitted}
-use Rattle.pool.proofs.Laws.{checked-simple, admitted, admits}
-use Rattle.level_sheet.specs.SheetCheck.{Accepted}
-use Rattle.level_sheet.proofs.Laws.{accepts}
-use Rattle.marking.proofs.Marking.{vertex-within, marking-vertex}
+use Rattle.anchored.specs.Followers.{followers, reached}
+use Rattle.anchored.specs.Yield.{bareLevel, net, netYield, climbed}
+use Rattle.anchored.specs.Session.{Row}
+use Rattle.anchored.specs.Events.{Event, Pool, anchors, eventStatus, eventRow, eventTurn, afterEvents, gainedFrom}
+use Rattle.anchored.proofs.Events.{turn-none, climbed-stretch, row-none, row-status}
+use Rattle.anchored.proofs.Order.{after-prefix}
+use Rattle.pool.specs.Input.{graphOf, anchoredBy}
 use Rattle.search.specs.declared.operation.Searched.the-variants.{Found}
-use Rattle.search.proofs.Answers.{search-free, followers-found}
-use Rattle.records.specs.Record.{sessionOf}
-use Rattle.session.specs.Run.{Slices, sized, admitRun, runOf, rowAt, ended}
-use Rattle.session.specs.Claim.{upto, set, searched, marks, redone, shown, climbs, gains, Fresh, Plainly, Accepts, Refuses, Claim}
-use Rattle.session.proofs.Serving.{admitted-bytes, run-lent}
+use Rattle.edit.specs.Edit.{lastStart, startsOf, linksOf}
+use Rattle.session.specs.Run.{Lists, size, prefix, eventAt, Slices, sized, runOf, poolOf, rowAt, ended}
+use Rattle.session.specs.Claim.{upto, graph, set, redone, shown, climbs, gains, Stays, Fresh, Plainly, Anchors, Edits, Refuses, Anchoring, Claim}
+use Rattle.session.specs.Runs.{Runs}
+use Rattle.session.proofs.Runs.{prefix-size, prefix-all, runs-prefix, run-passes, run-sound}
+use Rattle.session.proofs.Tables.{Standing, start-starts, start-links, pools-stand}
+use Rattle.session.proofs.Records.{pool-simple, set-is, bytes-admitted, search-at, yield-anchored, yield-free, yield-made, climbs-are}
+use Rattle.session.proofs.Rows.{status-same}
+use Rattle.session.proofs.Events.{Accepted}
+use Rattle.session.proofs.Events as event
 
-module _ (s l given requests : List ℕ) (accepted : admitOf s l given ≡ Passed) where
+module _ (s l given : List ℕ) (events : Lists) (runs : Runs s l given events) where
   abbrev n : ℕ
   n = vertices s
 
   abbrev m : ℕ
-  m = length requests
-
-  abbrev G : Graph
-  G = graphOf s l
+  m = size events
 
   abbrev record-at : ℕ → Slices
-  record-at i = upto s l given requests i
+  record-at i = upto s l given events i
+
+  abbrev graph-at : ℕ → Graph
+  graph-at i = graph s l given events i
 
   abbrev set-at : ℕ → ℕ → Bool
-  set-at i = set s l given requests i
-
-  abbrev marks-at : ℕ → ℕ → List ℕ
-  marks-at i x = marks s l given requests i x
-
-  abbrev redone-at : ℕ → ℕ → Bool
-  redone-at i = redone s l given requests i
+  set-at i = set s l given events i
 
   abbrev shown-at : ℕ → Row
-  shown-at i = shown s l given requests i
+  shown-at i = shown s l given events i
 
-  -- the session that the record after i requests is made from
-  abbrev P : ℕ → Plain
-  P i = sessionOf s l given (take i requests) (length (take i requests))
+  -- the pool that the table and the record after i events are made from
+  abbrev P : ℕ → Pool
+  P i = poolOf s l given (prefix i events) (size (prefix i events))
 
-  -- it is the session of the whole list after i requests
-  prefix : (i : ℕ) → i ≤ m → P i ≡ sessionOf s l given requests i
-  prefix i h = rw (length-take-le i requests h) (after-prefix G (anchoredBy given) requests i i (omega arith))
+  -- it is the pool of the whole list after i events
+  prefix-pool : (i : ℕ) → i ≤ m → P i ≡ poolOf s l given events i
+  prefix-pool i h = rw (prefix-size events i h) (after-prefix (graphOf s l) (anchoredBy given) (events .kinds) (events .firsts) (events .seconds) i)
 
-  table-sound : checkOf s l ≡ Passed
-  unfolding admitOf
-  table-sound = both-passed (checkOf s l) _ accepted .0
-
-  given-admitted : Admitted s l given
-  given-admitted = admitted s l given accepted
-
-  L : Simple G
-  L = checked-simple s l table-sound
+  -- one event more
+  pool-more : (i : ℕ) → poolOf s l given events (i + 1) ≡ eventTurn (i + 1) (eventAt events i) (poolOf s l given events i)
+  unfolding afterEvents
+  pool-more i = rw add-one
 
   -- ---- one record
 
   module _ (i : ℕ) where
-    abbrev A : ℕ → Bool
-    A = P i .anchors
+    stands : Standing n (P i)
+    stands = pools-stand s l (runs .table) given (runs .long) (eventAt (prefix i events)) (size (prefix i events))
 
-    abbrev bytes : List ℕ
-    bytes = record-at i .anchored
+    -- what is defined for the graph of the slices and the set of the bytes is defined for the pool
+    in-slices : {X : Type 0} (f : Graph → (ℕ → Bool) → X) → f (graph-at i) (set-at i) ≡ f (P i .graph) (P i .plain .anchors)
+    in-slices f = ap₂ f (stands .tabled .graph) (set-is stands)
 
-    -- a byte is 1 exactly for a vertex in the session's set
-    set-is : set-at i ≡ A
-    set-is = fun-ext (λ v. split (leb n v)
-        (λ h. let past = leb→le n v h in
-        rw (
-          List·getD-eq-default bytes 0 {n = v} (omega (arith, length-tabulate (λ w. bit (A w)) n)),
-          after-beyond G (anchoredBy given) (take i requests) (length (take i requests)) v past,
-          List·getD-eq-default given 0 {n = v} (omega (arith, admitted-bytes s l given accepted)),
-        ))
-        (λ h. rw (tabulate-at (λ w. bit (A w)) n v (nleb→lt n v h)) (bit-one (A v))))
+    in-set : (v : ℕ) → T (set-at i v) → T (P i .plain .anchors v)
+    in-set v = subst (λ B. T (B v)) (set-is stands)
 
-    bytes-admitted : admitOf s l bytes ≡ Passed
-    bytes-admitted = admits s l bytes table-sound (length-tabulate (λ v. bit (A v)) n) record {
-      table = given-admitted .table;
-      long = omega (arith, length-tabulate (λ v. bit (A v)) n);
-      bytes = λ v b. rw (tabulate-at (λ w. bit (A w)) n v b) (bit-le (A v));
+    in-none : (v : ℕ) → T (not (set-at i v)) → T (not (P i .plain .anchors v))
+    in-none v = subst (λ B. T (not (B v))) (set-is stands)
+
+    stays-at : Stays s l given events i
+    stays-at = record {
+      table = stands .lent;
+      vertices = stands .vertices;
+      places = stands .tabled .places;
+      zeros = stands .tabled .padded .zeros;
     }
 
-    sheet : Accepted s l bytes (record-at i .levels) (record-at i .layers)
-    sheet = record {
-      levels-long = length-tabulate (level G A) n;
-      layers-long = length-tabulate (layer G A) n;
-      levels-hold = λ v b. rw set-is (tabulate-at (level G A) n v b);
-      layers-hold = λ v b. rw set-is (tabulate-at (layer G A) n v b);
-    }
-
-    -- the search from a vertex that is not anchored accepts the record
-    search-at : (x : ℕ) → x < n → T (not (set-at i x)) → searched s l given requests i x ≡ Found (followers G (set-at i) x) (reached G (set-at i) x)
-    search-at x b free =
-        let lev = record-at i .levels in
-        let lay = record-at i .layers in
-        let marking = marking-vertex s l bytes lev lay x n bytes-admitted refl ∙ vertex-within s l bytes lev lay x (accepts s l bytes lev lay (given-admitted .table) sheet) b in
-        followers-found s l bytes lev lay x n (search-free s l bytes lev lay x n marking (neqb (getD bytes x 0) 1 free))
-
-    yield-anchored : (v : ℕ) → v < n → T (set-at i v) → getD (record-at i .yields) v (pos 0) ≡ least
-    unfolding netYield
-    yield-anchored v b t = tabulate-reads (netYield G A) (pos 0) n v b ∙ rw (true-of (A v) (subst (λ B. T (B v)) set-is t))
-
-    yield-free : (v : ℕ) → v < n → T (not (set-at i v)) → getD (record-at i .yields) v (pos 0) ≡ net G A v
-    unfolding netYield
-    yield-free v b t = tabulate-reads (netYield G A) (pos 0) n v b ∙ rw (false-of (A v) (subst (λ B. T (not (B v))) set-is t))
-
-    yield-made : (v : ℕ) → v < n → net G A v ≡ pos (followers G (set-at i) v) -ℤ pos (getD (record-at i .levels) v 0 - bareLevel G v)
-    unfolding net climb
-    yield-made v b = rw (set-is, tabulate-at (level G A) n v b)
-
-    climbs-are : climbs s l given requests i ≡ climbed G A
-    unfolding climbed climb
-    climbs-are = sum-cong _ _ (below n) (λ v j. ap₂ (λ (b : Bool) (k : ℕ). cond b 0 (k - bareLevel G v)) (ap (λ B. B v) set-is) (tabulate-at (level G A) n v (in-below n v .0 j)))
-
-    fresh-at : Fresh s l given requests i
+    fresh-at : Fresh s l given events i
     fresh-at = record {
-      admitted = bytes-admitted;
-      levels = ap (λ B. tabulate (level G B) n) (sym set-is);
-      layers = ap (λ B. tabulate (layer G B) n) (sym set-is);
-      components = ap (λ B. tabulate (component G B) n) (sym set-is);
-      anchored = yield-anchored;
-      search = search-at;
-      yields = λ v b t. yield-free v b t ∙ yield-made v b;
+      admitted = bytes-admitted stands;
+      levels = sym (in-slices (λ g B. tabulate (level g B) n));
+      layers = sym (in-slices (λ g B. tabulate (layer g B) n));
+      components = sym (in-slices (λ g B. tabulate (component g B) n));
+      anchored = λ v b t. yield-anchored stands v b (in-set v t);
+      search = λ v b t. search-at stands v b (in-none v t) ∙ sym (in-slices (λ g B. Found (followers g B v) (reached g B v)));
+      yields = λ v b t. yield-free stands v b (in-none v t) ∙ yield-made stands v b
+          ∙ sym (in-slices (λ g B. pos (followers g B v) -ℤ pos (getD (record-at i .levels) v 0 - bareLevel g v)));
     }
 
-    plain-at : i ≤ m → Plainly s l given requests i
-    plain-at h = record {
-      anchored = ap (λ S. tabulate (λ v. bit (S .anchors v)) n) (prefix i h);
-      stamps = ap (λ S. tabulate (S .stamps) n) (prefix i h);
+    plain-at : i ≤ m → Plainly s l given events i
+    plain-at h = let same = prefix-pool i h in record {
+      graph = stands .tabled .graph ∙ ap (λ R. R .graph) same;
+      anchored = ap (λ R. tabulate (λ v. bit (R .plain .anchors v)) n) same;
+      stamps = ap (λ R. tabulate (R .plain .stamps) n) same;
     }
 
-  -- ---- one request
+    -- the climbs of the record are those of the plain session's pool
+    climbs-at : i ≤ m → climbs s l given events i ≡ (let R = poolOf s l given events i in climbed (R .graph) (R .plain .anchors))
+    climbs-at h =
+        in-slices (λ g B. sum (λ v. cond (B v) 0 (getD (record-at i .levels) v 0 - bareLevel g v)) (below n))
+        ∙ climbs-are stands
+        ∙ ap (λ R. climbed (R .graph) (R .plain .anchors)) (prefix-pool i h)
+
+  -- ---- one event
 
   module _ (i : ℕ) (h : i < m) where
-    abbrev x : ℕ
-    x = getD requests i 0
+    abbrev e : Event
+    e = eventAt events i
 
-    -- who is anchored just before it
-    abbrev before : ℕ → Bool
-    before = P i .anchors
-
-    shown-row : shown-at i ≡ rowAt s l given requests i
+    -- its numbers
+    shown-row : shown-at i ≡ rowAt s l given events i
     shown-row = rw (
-      tabulate-at (λ j. rowAt s l given requests j .status) m i h,
-      tabulate-at (λ j. rowAt s l given requests j .lifted) m i h,
-      tabulate-at (λ j. rowAt s l given requests j .redone) m i h,
+      tabulate-at (λ j. rowAt s l given events j .status) m i h,
+      tabulate-at (λ j. rowAt s l given events j .lifted) m i h,
+      tabulate-at (λ j. rowAt s l given events j .redone) m i h,
     )
 
-    -- the row and the turn, on the session that the record just before is made from
-    row-at : shown-at i ≡ rowOf G (P i) x
-    row-at = shown-row ∙ ap (λ S. rowOf G S x) (sym (prefix i (omega arith)))
+    -- the row and the turn, on the pool that the record just before is made from
+    row-at : shown-at i ≡ eventRow (P i) e
+    row-at = shown-row ∙ ap (λ R. eventRow R e) (sym (prefix-pool i (omega arith)))
 
-    turn-at : P (i + 1) ≡ turn G (i + 1) x (P i)
-    turn-at = prefix (i + 1) (omega arith) ∙ after-more G (anchoredBy given) requests i ∙ ap (turn G (i + 1) x) (sym (prefix i (omega arith)))
+    turn-at : P (i + 1) ≡ eventTurn (i + 1) e (P i)
+    turn-at = prefix-pool (i + 1) (omega arith) ∙ pool-more i ∙ ap (eventTurn (i + 1) e) (sym (prefix-pool i (omega arith)))
 
-    row-status : rowOf G (P i) x .status ≡ statusOf G before x
-    row-status = split (eqb (statusOf G before x) 0)
-        (λ t. let e = eqb→eq (statusOf G before x) 0 t in ap (λ r. r .status) (row-accepted G (P i) x e) ∙ sym e)
-        (λ t. ap (λ r. r .status) (row-refused G (P i) x (neqb (statusOf G before x) 0 t)))
+    -- the status it shows, in the pool of the whole list, in that of the record just before, and by the slices
+    shown-plain : shown-at i .status ≡ eventStatus (poolOf s l given events i) e
+    shown-plain = ap (λ r. r .status) shown-row ∙ row-status (poolOf s l given events i) e
 
-    shown-status : shown-at i .status ≡ statusOf G before x
-    shown-status = ap (λ r. r .status) row-at ∙ row-status
+    shown-status : shown-at i .status ≡ eventStatus (P i) e
+    shown-status = ap (λ r. r .status) row-at ∙ row-status (P i) e
 
-    module _ (free : statusOf G before x ≡ 0) where
-      vertex : x < n
-      vertex = status-free G before x .0 free .0
+    status-at : shown-at i .status ≡ eventStatus (record { graph = graph-at i; plain = record { anchors = set-at i; stamps = λ v. getD (record-at i .stamps) v 0 } }) e
+    status-at = shown-status ∙ status-same (P i) e _ _ _ (stands i .tabled .graph) (set-is (stands i))
 
-      unanchored : T (not (set-at i x))
-      unanchored = subst (λ C. T (not (C x))) (sym (set-is i)) (status-free G before x .0 free .1)
+    module _ (accepts : eventStatus (P i) e ≡ 0) where
+      abbrev x : ℕ
+      x = e .first
 
-      turned : P (i + 1) ≡ record { anchors = adding before x; stamps = λ v. cond (eqb x v || recomputed G before (adding before x) v) (i + 1) (P i .stamps v) }
-      turned = turn-at ∙ turn-accepted G (P i) x (i + 1) free
+      step : Accepted n (P i) (P (i + 1)) e (i + 1)
+      step = record { old = stands i; new = stands (i + 1); status = accepts; turned = turn-at }
 
-      -- the anchors after, said of the session and of the record
-      next-anchors : P (i + 1) .anchors ≡ adding before x
-      next-anchors = ap (λ S. S .anchors) turned
+      -- it anchors its first vertex, or it adds or drops its edge
+      anchors-at : T (anchors e) → Anchors s l given events i x
+      anchors-at kind =
+          let again = redone s l given events i in
+          let next = event.anchored-next step kind in
+          let stamps = event.anchor-stamps step kind in
+          record {
+            starts = ap (λ R. startsOf (R .graph)) next;
+            links = ap (λ R. linksOf (R .graph)) next;
+            anchored = event.anchored-set step kind;
+            search = search-at (stands i) x (event.anchor-vertex step kind) (event.anchor-free step kind)
+                ∙ ap₂ Found (sym (ap (λ r. r .lifted) row-at ∙ event.anchor-lifted step kind)) (sym (in-slices i (λ g B. reached g B x)));
+            lifted = ap (λ r. r .lifted) row-at ∙ event.anchor-marked step kind;
+            levels = event.anchor-levels step kind;
+            stamped = λ v b t. stamps v b ∙ rw (true-of (eqb x v || again v) t);
+            counted = ap (λ r. r .redone) row-at ∙ event.anchor-counted step kind;
+            uncounted = event.anchor-uncounted step kind;
+            kept-yields = event.anchor-yields step kind;
+            kept-stamps = λ v b t. stamps v b ∙ rw (false-of (eqb x v || again v) t);
+          }
 
-      next-set : set-at (i + 1) ≡ adding before x
-      next-set = set-is (i + 1) ∙ next-anchors
+      edits-at : T (not (anchors e)) → Edits s l given events i
+      edits-at kind =
+          let again = redone s l given events i in
+          let stamps = event.edge-stamps step kind in
+          record {
+            edited = event.edged-graph step kind;
+            anchored = ap (λ (A : ℕ → Bool). tabulate (λ v. bit (A v)) n) (event.edged-set step kind);
+            lifted = ap (λ r. r .lifted) row-at ∙ event.edge-lifted step kind;
+            levels = event.edge-levels step kind;
+            bares = event.edge-bares step kind;
+            stamped = λ v b t. stamps v b ∙ rw (true-of (again v) t);
+            counted = ap (λ r. r .redone) row-at ∙ event.edge-counted step kind;
+            kept-yields = event.edge-yields step kind;
+            kept-stamps = λ v b t. stamps v b ∙ rw (false-of (again v) t);
+          }
 
-      redone-is : redone-at i ≡ recomputed G before (adding before x)
-      redone-is = ap₂ (recomputed G) (set-is i) next-set
+    -- refused, it leaves the pool, and so every slice
+    refuses-at : (eventStatus (P i) e ≡ 0 → ⊥) → Refuses s l given events i
+    refuses-at refusal =
+        let row = row-at ∙ row-none (P i) e refusal in
+        let same = turn-at ∙ turn-none (P i) e (i + 1) refusal in
+        record {
+          lifted = ap (λ r. r .lifted) row;
+          redone = ap (λ r. r .redone) row;
+          starts = ap (λ R. startsOf (R .graph)) same;
+          links = ap (λ R. linksOf (R .graph)) same;
+          anchored = ap (λ R. tabulate (λ v. bit (R .plain .anchors v)) n) same;
+          levels = ap (λ R. tabulate (level (R .graph) (R .plain .anchors)) n) same;
+          layers = ap (λ R. tabulate (layer (R .graph) (R .plain .anchors)) n) same;
+          components = ap (λ R. tabulate (component (R .graph) (R .plain .anchors)) n) same;
+          yields = ap (λ R. tabulate (netYield (R .graph) (R .plain .anchors)) n) same;
+          stamps = ap (λ R. tabulate (R .plain .stamps) n) same;
+        }
 
-      row : shown-at i ≡ record { status = 0; lifted = followers G before x; redone = count (recomputed G before (adding before x)) (below n) }
-      row = row-at ∙ row-accepted G (P i) x free
-
-      lifted-is : shown-at i .lifted ≡ followers G (set-at i) x
-      lifted-is = ap (λ r. r .lifted) row ∙ ap (λ C. followers G C x) (sym (set-is i))
-
-      mark-at : (v : ℕ) → v < n → getD (marks-at i x) v 0 ≡ mark G (set-at i) x v
-      mark-at v b = tabulate-at (mark G (set-at i) x) n v b
-
-      level-at : (v : ℕ) → v < n → (v ≡ x → ⊥)
-          → getD (record-at (i + 1) .levels) v 0 ≡ getD (record-at i .levels) v 0 + bit (eqb (getD (marks-at i x) v 0) 2)
-      level-at v b other =
-          tabulate-at (level G (P (i + 1) .anchors)) n v b
-          ∙ ap (λ C. level G C v) next-anchors
-          ∙ level-lifted G L before x v b other
-          ∙ ap₂ (λ k j. k + bit (eqb j 2)) (sym (tabulate-at (level G before) n v b)) (sym (mark-at v b ∙ ap (λ C. mark G C x v) (set-is i)))
-
-      stamp-at : (v : ℕ) → v < n → getD (record-at (i + 1) .stamps) v 0 ≡ cond (eqb x v || redone-at i v) (i + 1) (getD (record-at i .stamps) v 0)
-      stamp-at v b = rw redone-is (
-          tabulate-at (P (i + 1) .stamps) n v b
-          ∙ ap (λ S. S .stamps v) turned
-          ∙ ap (cond (eqb x v || recomputed G before (adding before x) v) (i + 1)) (sym (tabulate-at (P i .stamps) n v b)))
-
-      -- an anchored vertex other than x reads -32,768 before and after; any other row is kept where it is not recomputed
-      same-yield : (v : ℕ) → v < n → T (not (eqb x v)) → T (not (recomputed G before (adding before x) v)) → netYield G (adding before x) v ≡ netYield G before v
-      unfolding netYield
-      same-yield v b other r = split (before v)
-          (λ a. rw (true-of (before v) a))
-          (λ a. let t = free-adding before x v a (neqb x v other) in rw (false-of (adding before x v) t, false-of (before v) a) (sym (kept-net G L before x v b t r)))
-
-      yield-at : (v : ℕ) → v < n → T (not (eqb x v || redone-at i v)) → getD (record-at (i + 1) .yields) v (pos 0) ≡ getD (record-at i .yields) v (pos 0)
-      yield-at v b t =
-          let again = redone-at i v in
-          let other = not-T (eqb x v) (λ e. T-not (eqb x v || again) t (or-l (eqb x v) again e)) in
-          let r = not-T again (λ e. T-not (eqb x v || again) t (or-r (eqb x v) again e)) in
-          tabulate-reads (netYield G (P (i + 1) .anchors)) (pos 0) n v b
-          ∙ ap (λ C. netYield G C v) next-anchors
-          ∙ same-yield v b other (subst (λ f. T (not (f v))) redone-is r)
-          ∙ sym (tabulate-reads (netYield G before) (pos 0) n v b)
-
-      x-not-redone : T (not (redone-at i x))
-      unfolding recomputed
-      x-not-redone = subst (λ f. T (not (f x))) (sym redone-is) (rw (true-of (adding before x x) (or-r (before x) (eqb x x) (eqb-refl x))) tt)
-
-      accepted-at : Accepts s l given requests i x
-      accepted-at = record {
-        anchored = next-set ∙ ap (λ C. adding C x) (sym (set-is i));
-        search = search-at i x vertex unanchored ∙ ap (λ k. Found k (reached G (set-at i) x)) (sym lifted-is);
-        lifted = lifted-is ∙ followers-marks G (set-at i) x
-            ∙ count-cong _ _ (below n) (λ v j. ap (λ k. eqb k 2) (sym (mark-at v (in-below n v .0 j))));
-        levels = level-at;
-        stamped = λ v b t. stamp-at v b ∙ rw (true-of (eqb x v || redone-at i v) t);
-        counted = ap (λ r. r .redone) row ∙ ap (λ f. count f (below n)) (sym redone-is);
-        uncounted = x-not-redone;
-        kept-yields = yield-at;
-        kept-stamps = λ v b t. stamp-at v b ∙ rw (false-of (eqb x v || redone-at i v) t);
-      }
-
-    -- what it adds to the yields of the accepted requests
-    gain : cond (eqb (shown-at i .status) 0) (getD (record-at i .yields) x (pos 0)) (pos 0)
-        ≡ (let B = sessionOf s l given requests i .anchors in cond (eqb (statusOf G B x) 0) (net G B x) (pos 0))
-    gain =
-        let accepts = eqb (statusOf G before x) 0 in
-        ap (λ (k : ℕ). cond (eqb k 0) (getD (record-at i .yields) x (pos 0)) (pos 0)) shown-status
+    -- what it adds to the yields of the vertices anchored, if it is no accepted edge event
+    gain : (shown-at i .status ≡ 0 → T (anchors e)) → cond (eqb (shown-at i .status) 0) (getD (record-at i .yields) (e .first) (pos 0)) (pos 0)
+        ≡ (let R = poolOf s l given events i in cond (eqb (eventStatus R e) 0 && anchors e) (net (R .graph) (R .plain .anchors) (e .first)) (pos 0))
+    gain only =
+        let accepts = eqb (eventStatus (P i) e) 0 in
+        ap (λ (k : ℕ). cond (eqb k 0) (getD (record-at i .yields) (e .first) (pos 0)) (pos 0)) shown-status
         ∙ split accepts
-        (λ t. let free = eqb→eq (statusOf G before x) 0 t in rw (true-of accepts t) (yield-free i x (vertex free) (unanchored free)))
+        (λ t.
+        let zero-status = eqb→eq (eventStatus (P i) e) 0 t in
+        let kind = only (shown-status ∙ zero-status) in
+        rw (true-of accepts t, true-of (anchors e) kind) (yield-free (stands i) (e .first) (event.anchor-vertex (step zero-status) kind) (event.anchor-free (step zero-status) kind)))
         (λ t. rw (false-of accepts t))
-        ∙ ap (λ S. cond (eqb (statusOf G (S .anchors) x) 0) (net G (S .anchors) x) (pos 0)) (prefix i (omega arith))
+        ∙ ap (λ R. cond (eqb (eventStatus R e) 0 && anchors e) (net (R .graph) (R .plain .anchors) (e .first)) (pos 0)) (prefix-pool i (omega arith))
 
-    module _ (refusal : statusOf G before x ≡ 0 → ⊥) where
-      same : P (i + 1) ≡ P i
-      same = turn-at ∙ turn-refused G (P i) x (i + 1) refusal
+  -- ---- stretches without accepted edge events
 
-      refused-row : shown-at i ≡ record { status = statusOf G before x; lifted = 0; redone = 0 }
-      refused-row = row-at ∙ row-refused G (P i) x refusal
+  -- the yields in the records are the net yields of the plain session's pools
+  gains-are : (i k : ℕ) → i + k ≤ m → Anchoring s l given events i k → gains s l given events i k ≡ gainedFrom (graphOf s l) (anchoredBy given) (eventAt events) i k
+  unfolding gains gainedFrom
+  gains-are i zero h only = refl
+  gains-are i (suc k) h only = ap₂ _+ℤ_ (gains-are i k (omega arith) (λ j b. only j (omega arith))) (gain (i + k) (omega arith) (only k (omega arith)))
 
-      refused-at : Refuses s l given requests i
-      refused-at = record {
-        lifted = ap (λ r. r .lifted) refused-row;
-        redone = ap (λ r. r .redone) refused-row;
-        anchored = ap (λ S. tabulate (λ v. bit (S .anchors v)) n) same;
-        levels = ap (λ S. tabulate (level G (S .anchors)) n) same;
-        layers = ap (λ S. tabulate (layer G (S .anchors)) n) same;
-        components = ap (λ S. tabulate (component G (S .anchors)) n) same;
-        yields = ap (λ S. tabulate (netYield G (S .anchors)) n) same;
-        stamps = ap (λ S. tabulate (S .stamps) n) same;
-      }
+  start-simple : Simple (graphOf s l)
+  unfolding afterEvents
+  start-simple = pool-simple (pools-stand s l (runs .table) given (runs .long) (eventAt events) 0)
+
+  climbs-grow : (i k : ℕ) → i + k ≤ m → Anchoring s l given events i k → pos (climbs s l given events (i + k)) ≡ pos (climbs s l given events i) +ℤ gains s l given events i k
+  climbs-grow i k h only =
+      ap pos (climbs-at (i + k) h)
+      ∙ climbed-stretch (graphOf s l) start-simple (anchoredBy given) (eventAt events) i k (λ j b z. only j b (shown-plain (i + j) (omega arith) ∙ z))
+      ∙ ap₂ (λ (c : ℕ) (z : ℤ). pos c +ℤ z) (sym (climbs-at i (omega arith))) (sym (gains-are i k h only))
 
   -- ---- the claim
 
   -- bytes of at most 1 are the bits of the set they say
   start-bytes : record-at 0 .anchored ≡ given
-  unfolding after
-  start-bytes =
-      tabulate-cong _ (λ v. getD given v 0) n (λ v b. bit-byte (getD given v 0) (given-admitted .bytes v b))
-      ∙ tabulate-self given n (admitted-bytes s l given accepted)
+  unfolding afterEvents
+  start-bytes = tabulate-cong _ (λ v. getD given v 0) n (λ v b. bit-byte (getD given v 0) (runs .bytes v b)) ∙ tabulate-self given n (runs .long)
 
   start-stamps : record-at 0 .stamps ≡ tabulate (λ v. 0) n
-  unfolding after
+  unfolding afterEvents
   start-stamps = refl
 
-  -- the yields of the accepted requests are the net yields of the plain session's
-  gains-are : (i : ℕ) → i ≤ m → gains s l given requests i ≡ gained G (anchoredBy given) requests i
-  unfolding gains gained
-  gains-are zero h = refl
-  gains-are (suc i) h = ap₂ _+ℤ_ (gains-are i (omega arith)) (gain i (omega arith))
+  -- the table at the start is the lent one
+  start-table : (record-at 0 .starts ≡ s) × (take (lastStart (record-at 0 .starts)) (record-at 0 .links) ≡ take (lastStart s) l)
+  unfolding afterEvents
+  start-table = (start-starts s l (runs .table), start-links s l (runs .table))
 
-  climbs-start : climbs s l given requests 0 ≡ climbed G (anchoredBy given)
-  unfolding after
-  climbs-start = climbs-are 0
+  -- the call with the first i events alone
+  prefix-run : (i : ℕ) → i ≤ m → (lent : Slices) → lent .starts ≡ s → lent .links ≡ l → T (sized n i lent) → runOf given (prefix i events) lent ≡ Passed
+  prefix-run i h lent starts links fits =
+      let long = prefix-size events i h in
+      rw (starts, links) (run-passes s l given (prefix i events) (sized n (size (prefix i events)) lent) (runs-prefix runs i h) (rw long fits))
 
-  climbs-grow : (i : ℕ) → i ≤ m → pos (climbs s l given requests i) ≡ pos (climbs s l given requests 0) +ℤ gains s l given requests i
-  climbs-grow i h =
-      ap pos (climbs-are i ∙ ap (λ S. climbed G (S .anchors)) (prefix i h))
-      ∙ climbed-grows G L (anchoredBy given) requests i
-      ∙ ap₂ (λ (k : ℕ) (z : ℤ). pos k +ℤ z) (sym climbs-start) (sym (gains-are i h))
-
-  module _ (few : m ≤ 4096) where
-    prefix-run : (i : ℕ) → i ≤ m → (lent : Slices) → T (sized n i lent) → runOf s l given (take i requests) lent ≡ Passed
-    prefix-run i h lent fits =
-        let long = length-take-le i requests h in
-        run-lent s l given (length (take i requests)) _ accepted true (omega arith) (rw long (true-of (sized n i lent) fits))
-
-    claimed : Claim s l given requests
-    claimed = record {
-      calls = prefix-run;
-      end = ap (ended s l given) (take-length requests);
-      start-anchored = start-bytes;
-      start-stamps = start-stamps;
-      fresh = λ i h. fresh-at i;
-      plain = plain-at;
-      numbers = shown-row;
-      status = λ i h. shown-status i h ∙ ap (λ C. statusOf G C (getD requests i 0)) (sym (set-is i));
-      accepted = λ i h e. accepted-at i h (sym (shown-status i h) ∙ e);
-      refused = λ i h e. refused-at i h (λ z. e (shown-status i h ∙ z));
-      grows = climbs-grow;
-    }
+  -- demand 3, from what a run that is not refused promises
+  pub claimed : Claim s l given events
+  claimed = record {
+    calls = prefix-run;
+    end = ap (ended s l given) (prefix-all runs);
+    start-starts = start-table .0;
+    start-links = start-table .1;
+    start-anchored = start-bytes;
+    start-stamps = start-stamps;
+    stays = λ i h. stays-at i;
+    fresh = λ i h. fresh-at i;
+    plain = plain-at;
+    numbers = shown-row;
+    status = status-at;
+    anchoring = λ i h z kind. anchors-at i h (sym (shown-status i h) ∙ z) kind;
+    editing = λ i h z kind. edits-at i h (sym (shown-status i h) ∙ z) kind;
+    refused = λ i h f. refuses-at i h (λ z. f (shown-status i h ∙ z));
+    grows = climbs-grow;
+  }
 
 -- demand 3, of every call that is not refused as a whole
-pub session-claim : (s l given requests : List ℕ) (fits : Bool) → admitRun s l given (length requests) fits ≡ Passed → Claim s l given requests
-unfolding admitRun
-session-claim s l given requests fits e =
-    let through = both-passed (admitOf s l given) _ e in
-    let few = went-on (ltb 4096 (length requests)) 11 0 (cond fits Passed (refused 12 0)) (through .1) in
-    claimed s l given requests (through .0) (ltb-false 4096 (length requests) (few .0))
+pub session-claim : (s l given : List ℕ) (events : Lists) (lent : Slices) → lent .starts ≡ s → lent .links ≡ l → runOf given events lent ≡ Passed → Claim s l given events
+session-claim s l given events lent starts links passed = claimed s l given events (run-sound s l given events (sized (vertices s) (size events) lent) (rw (starts, links) at passed) .0)

@@ -1,2 +1,9 @@
+pub mod Admit
+pub mod Alike
 pub mod Serving
+pub mod Runs
+pub mod Tables
+pub mod Rows
+pub mod Records
+pub mod Events
 pub mod Claims

@@ -1,38 +1,36 @@
--- A session served request by request: what holds when i requests are done, and what a run that is not refused promises. Assumes nothing.
-use mathlib.Core.Path.{_≡_, refl, sym, ap, _∙_, subst}
-use mathlib.Core.Logic.{inl, inr}
-use mathlib.Core.Bool.{Bool, cond}
+-- A session served event by event: what holds when i events are done, and the record at the end. Assumes nothing.
+use mathlib.Core.Path.{_≡_, refl, sym, ap, ap₂, _∙_, subst}
+use mathlib.Core.Bool.{Bool}
 use mathlib.Core.List.{List, [], _++_}
-use Prim.Native.Nat.{ℕ, _+_, _≤_, _<_}
+use Prim.Native.Nat.{ℕ, _+_, _-_, _<_}
+use native.Mathlib.Omega.{arith}
 use lib.ListN.{length, drop, getD, set, length-set}
-use lib.Dec.{ltb, eqb}
-use borrow.Author.Tests.{lt-ltb, le-ltb, ltb-false, eqb-true, not-false}
 use Rattle.finite.specs.Count.{bit, tabulate}
-use Rattle.finite.specs.Search.{all}
-use Rattle.finite.proofs.Tests.{and-l, and-r}
 use Rattle.finite.proofs.Count.{bit-byte, fill-none, fill-more, fill-all, tabulate-cong}
-use Rattle.table.specs.Table.{vertices, checkOf}
-use Rattle.table.specs.Guard.{refused}
-use Rattle.table.specs.declared.Guard.the-variants.{Passed}
-use Rattle.table.proofs.Guards.{both-passed, cleared}
-use Rattle.table.proofs.Laws.{went-on}
+use Rattle.table.specs.Table.{vertices}
+use Rattle.anchored.specs.Graph.{Graph}
+use Rattle.anchored.specs.Core.{level, layer}
+use Rattle.anchored.specs.Component.{component}
 use Rattle.anchored.specs.Yield.{netYield}
-use Rattle.anchored.specs.Session.{Plain, after}
-use Rattle.pool.specs.Input.{graphOf, admitOf}
+use Rattle.anchored.specs.Session.{Row, after}
+use Rattle.anchored.specs.Events.{Pool, eventRow, eventTurn, afterEvents}
+use Rattle.anchored.proofs.Events.{events-more}
+use Rattle.pool.specs.Input.{graphOf, anchoredBy, Admitted}
 use Rattle.pool.specs.Arrays.{Holds}
-use Rattle.pool.proofs.Laws.{admitted}
-use Rattle.pool.proofs.Lengths.{passed, each}
 use Rattle.stale.specs.Columns.{ColumnsOf}
-use Rattle.records.specs.Record.{Keeps, sessionOf}
+use Rattle.records.specs.Record.{Stands, Keeps, sessionOf}
 use Rattle.records.specs.Yield.{yieldAt}
-use Rattle.step.specs.Turn.{rowAs, Turned}
 use Rattle.records.specs.declared.Record.{Record}
 use Rattle.records.proofs.Nets.{right-yield}
+use Rattle.step.specs.Turn.{rowAs}
 use Rattle.step.specs.declared.Stepped.{Stepped}
-use Rattle.step.proofs.Steps.{stands-row, stands-more}
-use Rattle.session.specs.Run.{Slices, records, numbers, sized, admitRun, runOf, Ready, rowAt}
+use Rattle.edit.specs.Edit.{Tabled}
+use Rattle.events.specs.Turn.{poolOf, Turned}
+use Rattle.session.specs.Run.{Lists, size, eventAt}
+use Rattle.session.specs.Runs.{Runs}
+use Rattle.session.proofs.Alike.{Alike, alike-row, alike-turn}
 
--- a slice of one number for each request has those of the first i, and after them what it had
+-- a slice of one number for each event has those of the first i, and after them what it had
 pub record Filled (f : ℕ → ℕ) (old new : List ℕ) (i : ℕ) : Type 0 where
   pub numbers : new ≡ tabulate f i ++ drop i old
   pub long : length new ≡ length old
@@ -50,36 +48,84 @@ filled-more f old new i x e h filled = record {
 pub filled-all : (f : ℕ → ℕ) (old new : List ℕ) (i m : ℕ) → Filled f old new i → i ≡ m → length old ≡ m → new ≡ tabulate f m
 filled-all f old new i m filled e long = filled .numbers ∙ fill-all f old i (e ∙ sym long) ∙ ap (tabulate f) e
 
-module _ (s l given requests : List ℕ) where
-  -- the record is that of the plain session after i requests, whose numbers are written
-  pub record Serving (status₀ lifted₀ redone₀ status lifted redone : List ℕ) (kept : Record) (i : ℕ) : Type 0 where
-    pub keeps : Keeps s l kept (sessionOf s l given requests i)
-    pub statuses : Filled (λ k. rowAt s l given requests k .status) status₀ status i
-    pub lifts : Filled (λ k. rowAt s l given requests k .lifted) lifted₀ lifted i
-    pub redos : Filled (λ k. rowAt s l given requests k .redone) redone₀ redone i
+module _ (G : Graph) (given : List ℕ) (events : Lists) where
+  -- the plain session from the graph G on, and the numbers of event i in it
+  abbrev pub poolAt : ℕ → Pool
+  poolAt i = afterEvents G (anchoredBy given) (eventAt events) i
+
+  abbrev pub rowFrom : ℕ → Row
+  rowFrom i = eventRow (poolAt i) (eventAt events i)
+
+  -- the table and the record are those of the plain session after i events, whose numbers are written
+  pub record Serving (starts₀ links₀ status₀ lifted₀ redone₀ starts links status lifted redone : List ℕ) (kept : Record) (i : ℕ) : Type 0 where
+    pub table : Tabled starts links (poolAt i .graph)
+    pub keeps : Keeps starts links kept (poolAt i .plain)
+    pub starts-long : length starts ≡ length starts₀
+    pub links-long : length links ≡ length links₀
+    pub statuses : Filled (λ k. rowFrom k .status) status₀ status i
+    pub lifts : Filled (λ k. rowFrom k .lifted) lifted₀ lifted i
+    pub redos : Filled (λ k. rowFrom k .redone) redone₀ redone i
+
+-- what begins a session: the lent table, with zeros past its last start, and the given bytes
+pub runs-admitted : {s l m given : List ℕ} {events : Lists} {G : Graph} → Runs s l given events → Tabled s m G → Admitted s m given
+runs-admitted runs table = record { table = table .sound; long = omega (arith, runs .long); bytes = runs .bytes }
 
 -- at the start
-pub serving-none : {s l given requests status lifted redone : List ℕ} {kept : Record} → Keeps s l kept (sessionOf s l given [] 0) → Serving s l given requests status lifted redone status lifted redone kept 0
-unfolding after
-serving-none {status = status} {lifted = lifted} {redone = redone} keeps = record {
+pub serving-none : {s l given status lifted redone : List ℕ} {events : Lists} {kept : Record} → Tabled s l (graphOf s l) → Keeps s l kept (sessionOf s l given [] 0)
+    → Serving (graphOf s l) given events s l status lifted redone s l status lifted redone kept 0
+unfolding after afterEvents
+serving-none {status = status} {lifted = lifted} {redone = redone} table keeps = record {
+  table = table;
   keeps = keeps;
+  starts-long = refl;
+  links-long = refl;
   statuses = filled-none _ status;
   lifts = filled-none _ lifted;
   redos = filled-none _ redone;
 }
 
-module _ {s l given requests status₀ lifted₀ redone₀ status lifted redone : List ℕ} {kept : Record} {i : ℕ} (now : Serving s l given requests status₀ lifted₀ redone₀ status lifted redone kept i) where
-  -- one request more
-  pub serving-more : i < length status₀ → i < length lifted₀ → i < length redone₀ → {left : Stepped} → Turned s l (i + 1) (getD requests i 0) kept left
-      → Serving s l given requests status₀ lifted₀ redone₀ (set status i (left .row .status)) (set lifted i (left .row .lifted)) (set redone i (left .row .redone)) (left .kept) (i + 1)
-  serving-more hs hl hr {left} turned =
-      let same : rowAs (left .row) ≡ rowAt s l given requests i = turned .row ∙ stands-row s l (now .keeps .stands) (getD requests i 0) in
+-- the pool of a table and a record is alike to one that they stand for
+stands-alike : {s l : List ℕ} {kept : Record} {P : Pool} → Tabled s l (P .graph) → Keeps s l kept (P .plain) → Alike (vertices s) (poolOf s l kept) P
+stands-alike table keeps = record { graph = table .graph; anchors = keeps .stands .anchors; stamps = keeps .stands .stamps }
+
+module _ {G : Graph} {given : List ℕ} {events : Lists} {s₀ l₀ status₀ lifted₀ redone₀ s l status lifted redone : List ℕ} {kept : Record} {i : ℕ} (now : Serving G given events s₀ l₀ status₀ lifted₀ redone₀ s l status lifted redone kept i) where
+  -- one event more
+  pub serving-more : i < length status₀ → i < length lifted₀ → i < length redone₀ → {s′ l′ : List ℕ} {left : Stepped} → length s′ ≡ length s → length l′ ≡ length l
+      → Turned s l (i + 1) (eventAt events i) kept s′ l′ left
+      → Serving G given events s₀ l₀ status₀ lifted₀ redone₀ s′ l′ (set status i (left .row .status)) (set lifted i (left .row .lifted)) (set redone i (left .row .redone)) (left .kept) (i + 1)
+  serving-more hs hl hr {s′} {l′} {left} starts-kept links-kept turned =
+      let e = eventAt events i in
+      let before = stands-alike {P = poolAt G given events i} (now .table) (now .keeps) in
+      let after : Alike (vertices s) (eventTurn (i + 1) e (poolOf s l kept)) (poolAt G given events (i + 1)) =
+      subst (Alike (vertices s) (eventTurn (i + 1) e (poolOf s l kept))) (sym (events-more G (anchoredBy given) (eventAt events) i)) (alike-turn before e (i + 1)) in
+      let same : rowAs (left .row) ≡ rowFrom G given events i = turned .row ∙ alike-row before e in
       record {
-        keeps = record { right = turned .right; stands = stands-more s l given requests i (now .keeps .stands) (turned .stands) };
+        table = subst (Tabled s′ l′) (after .graph) (turned .table);
+        keeps = record {
+          right = turned .right;
+          stands = subst (λ n. Stands (n - 1) (left .kept) (poolAt G given events (i + 1) .plain)) (sym starts-kept) record {
+            anchors = turned .stands .anchors ∙ after .anchors;
+            stamps = λ v h. turned .stands .stamps v h ∙ after .stamps v h;
+          };
+        };
+        starts-long = starts-kept ∙ now .starts-long;
+        links-long = links-kept ∙ now .links-long;
         statuses = filled-more _ status₀ status i (left .row .status) (ap (λ z. z .status) same) hs (now .statuses);
         lifts = filled-more _ lifted₀ lifted i (left .row .lifted) (ap (λ z. z .lifted) same) hl (now .lifts);
         redos = filled-more _ redone₀ redone i (left .row .redone) (ap (λ z. z .redone) same) hr (now .redos);
       }
+
+  -- all of them, from a graph that is the same
+  pub serving-all : {H : Graph} → G ≡ H → i ≡ size events → length status₀ ≡ size events → length lifted₀ ≡ size events → length redone₀ ≡ size events
+      → let end = poolAt H given events (size events) in
+      (Tabled s l (end .graph) × Keeps s l kept (end .plain))
+      × ((status ≡ tabulate (λ k. rowFrom H given events k .status) (size events))
+      × ((lifted ≡ tabulate (λ k. rowFrom H given events k .lifted) (size events)) × (redone ≡ tabulate (λ k. rowFrom H given events k .redone) (size events))))
+  serving-all {H} same end hs hl hr =
+      let done = subst (λ g. Serving g given events s₀ l₀ status₀ lifted₀ redone₀ s l status lifted redone kept i) same now in (
+        subst (λ k. let P = poolAt H given events k in Tabled s l (P .graph) × Keeps s l kept (P .plain)) end (done .table, done .keeps),
+        (filled-all _ _ _ _ _ (done .statuses) end hs, (filled-all _ _ _ _ _ (done .lifts) end hl, filled-all _ _ _ _ _ (done .redos) end hr)),
+      )
 
 -- ---- the end
 
@@ -87,66 +133,31 @@ module _ {s l given requests status₀ lifted₀ redone₀ status lifted redone 
 pub copied-out : {X : Type 0} (f g : ℕ → X) (new : List X) (k n : ℕ) → new ≡ tabulate g k → k ≡ n → ((v : ℕ) → v < n → g v ≡ f v) → new ≡ tabulate f n
 copied-out f g new k n copied e same = copied ∙ ap (tabulate g) e ∙ tabulate-cong g f n same
 
-module _ {s l : List ℕ} {kept : Record} {S : Plain} (keeps : Keeps s l kept S) where
-  -- the record at the end, in the words of the plain session
-  pub end-anchored : Holds (kept .anchored) (vertices s) (λ v. bit (S .anchors v))
-  end-anchored v h = subst (λ A. getD (kept .anchored) v 0 ≡ bit (A v)) (keeps .stands .anchors) (sym (bit-byte (getD (kept .anchored) v 0) (keeps .right .admitted .bytes v h)))
+-- the record at the end, in the words of the plain session
+module _ {s l : List ℕ} {kept : Record} {P : Pool} {n : ℕ} (table : Tabled s l (P .graph)) (keeps : Keeps s l kept (P .plain)) (size : vertices s ≡ n) where
+  abbrev A : ℕ → Bool
+  A = P .plain .anchors
 
-  pub end-columns : ColumnsOf (graphOf s l) (S .anchors) (kept .columns)
-  end-columns = subst (λ A. ColumnsOf (graphOf s l) A (kept .columns)) (keeps .stands .anchors) (keeps .right .columns)
+  columns : ColumnsOf (P .graph) A (kept .columns)
+  columns = subst (λ g. ColumnsOf g A (kept .columns)) (table .graph) (subst (λ B. ColumnsOf (graphOf s l) B (kept .columns)) (keeps .stands .anchors) (keeps .right .columns))
 
-  pub end-yields : (v : ℕ) → v < vertices s → yieldAt kept v ≡ netYield (graphOf s l) (S .anchors) v
-  end-yields v h = subst (λ A. yieldAt kept v ≡ netYield (graphOf s l) A v) (keeps .stands .anchors) (right-yield (keeps .right) v h)
+  within : (v : ℕ) → v < n → v < P .graph .size
+  within v h = omega (arith, size, ap (λ g. g .size) (table .graph))
 
--- ---- the answer
+  pub end-anchored : Holds (kept .anchored) n (λ v. bit (A v))
+  end-anchored v h = subst (λ B. getD (kept .anchored) v 0 ≡ bit (B v)) (keeps .stands .anchors) (sym (bit-byte (getD (kept .anchored) v 0) (keeps .right .admitted .bytes v (omega arith))))
 
--- admission tests that there are n bytes
-pub admitted-bytes : (s l a : List ℕ) → admitOf s l a ≡ Passed → length a ≡ vertices s
-unfolding admitOf
-admitted-bytes s l a e =
-    let checked = both-passed (checkOf s l) _ e in
-    let number = went-on _ _ _ _ (checked .1) in
-    eqb-true (length a) (vertices s) (not-false (eqb (length a) (vertices s)) (number .0))
+  pub end-levels : Holds (kept .columns .level) n (level (P .graph) A)
+  end-levels v h = columns .levels v (within v h)
 
-module _ (s l a : List ℕ) (m : ℕ) (fits : Bool) where
-  -- of what is admitted the number of requests decides, and then the lengths
-  module _ (admits : admitOf s l a ≡ Passed) where
-    pub run-many : 4096 < m → admitRun s l a m fits ≡ refused 11 0
-    unfolding admitRun
-    run-many h = cleared _ _ admits ∙ rw (lt-ltb 4096 m h)
+  pub end-layers : Holds (kept .columns .layer) n (layer (P .graph) A)
+  end-layers v h = columns .layers v (within v h)
 
-    pub run-lent : (b : Bool) → m ≤ 4096 → fits ≡ b → admitRun s l a m fits ≡ cond b Passed (refused 12 0)
-    unfolding admitRun
-    run-lent b h e = cleared _ _ admits ∙ rw (le-ltb 4096 m h, e)
+  pub end-components : Holds (kept .columns .component) n (component (P .graph) A)
+  end-components v h = columns .components v (within v h)
 
-module _ (s l given requests : List ℕ) (x : Slices) where
-  abbrev n : ℕ
-  n = vertices s
+  pub end-yields : (v : ℕ) → v < n → yieldAt kept v ≡ netYield (P .graph) A v
+  end-yields v h = right-yield (keeps .right) v (omega arith) ∙ ap₂ (λ g B. netYield g B v) (table .graph) (keeps .stands .anchors)
 
-  abbrev m : ℕ
-  m = length requests
-
-  -- what is not refused is ready to be served
-  pub run-ready : runOf s l given requests x ≡ Passed → Ready s l given requests x
-  unfolding admitRun
-  run-ready e =
-      let fits = sized n m x in
-      let through = both-passed (admitOf s l given) (cond (ltb 4096 m) (refused 11 0) (cond fits Passed (refused 12 0))) e in
-      let few = went-on (ltb 4096 m) 11 0 (cond fits Passed (refused 12 0)) (through .1) in
-      let lent = passed fits _ Passed (few .1) .0 in
-      let record-long = each n (records x) (and-l (all (eqb n) (records x)) (all (eqb m) (numbers x)) lent) in
-      let number-long = each m (numbers x) (and-r (all (eqb n) (records x)) (all (eqb m) (numbers x)) lent) in
-      record {
-        admitted = admitted s l given (through .0);
-        bytes = admitted-bytes s l given (through .0);
-        few = ltb-false 4096 m (few .0);
-        anchored-long = record-long _ (inl refl);
-        levels-long = record-long _ (inr (inl refl));
-        layers-long = record-long _ (inr (inr (inl refl)));
-        components-long = record-long _ (inr (inr (inr (inl refl))));
-        yields-long = record-long _ (inr (inr (inr (inr (inl refl)))));
-        stamps-long = record-long _ (inr (inr (inr (inr (inr (inl refl))))));
-        status-long = number-long _ (inl refl);
-        lifted-long = number-long _ (inr (inl refl));
-        redone-long = number-long _ (inr (inr (inl refl)));
-      }
+  pub end-stamps : Holds (kept .stamp) n (P .plain .stamps)
+  end-stamps v h = keeps .stands .stamps v (omega arith)

@@ -1,3 +1,4 @@
 pub mod Run
+pub mod Runs
 pub mod Claim
 pub mod Cases

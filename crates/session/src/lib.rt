@@ -1,3 +1,3 @@
-// Sessions: the list of requests, over the record and one request.
+// Sessions: the list of events, over the lent table and the record.
 pub mod lent; // the lent slices
-pub mod run; // the list of requests
+pub mod run; // the list of events

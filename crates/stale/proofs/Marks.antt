@@ -1,7 +1,7 @@
 -- How passes add to marks, place by place. Assumes nothing.
-use mathlib.Core.Path.{_≡_, refl, sym, ap, _∙_}
+use mathlib.Core.Path.{_≡_, sym, ap, _∙_}
 use mathlib.Core.Logic.{⊎-elim}
-use mathlib.Core.Bool.{Bool, true, false, cond, _&&_, _||_, or-false, or-true, or-assoc, and-false, and-true}
+use mathlib.Core.Bool.{Bool, true, false, cond, _&&_, _||_, or-false, or-true, or-assoc, and-false, and-true, and-or-distrib-left}
 use mathlib.Core.List.{List}
 use Prim.Native.Nat.{ℕ, _+_, _≤_, _<_}
 use native.Mathlib.Omega.{arith}
@@ -21,6 +21,15 @@ chosen false x = sym (or-false (eqb x 1))
 
 set-marked : (marks : List ℕ) (i v : ℕ) → i < length marks → marked (set marks i 1) v ≡ marked marks v || eqb i v
 set-marked marks i v h = ap (λ z. eqb z 1) (set-reads marks i 1 v (λ q. h)) ∙ chosen (eqb i v) (getD marks v 0)
+
+-- ---- several passes
+
+-- what two passes add, and three
+pub added-twice : {p q : ℕ → Bool} {old one new : List ℕ} → Added p old one → Added q one new → (v : ℕ) → marked new v ≡ marked old v || p v || q v
+added-twice {q = q} first second v = second .adds v ∙ ap (λ z. z || q v) (first .adds v)
+
+pub added-thrice : {p q r : ℕ → Bool} {old one two new : List ℕ} → Added p old one → Added q one two → Added r two new → (v : ℕ) → marked new v ≡ marked old v || p v || q v || r v
+added-thrice {r = r} first second third v = third .adds v ∙ ap (λ z. z || r v) (added-twice first second v)
 
 -- ---- passes over the places below n
 
@@ -63,10 +72,6 @@ module _ (p : ℕ → Bool) (old : List ℕ) where
         }
 
 -- ---- numbers
-
-and-or : (a b c : Bool) → a && (b || c) ≡ (a && b) || (a && c)
-and-or true b c = refl
-and-or false b c = refl
 
 marking-marked : (marks : List ℕ) (k c : ℕ) → length marks ≡ 1024 → marked (marking marks k) c ≡ marked marks c || (ltb c 1024 && eqb k c)
 marking-marked marks k c long = split (ltb k 1024)
@@ -111,5 +116,21 @@ module _ (comps marks : List ℕ) where
           let k = getD comps i 0 in
           let seen = carried comps marks i c in
           marking-marked now k c (so .long) ∙ ap (λ z. z || (ltb c 1024 && eqb k c)) (so .adds c) ∙ or-assoc (marked old c) (ltb c 1024 && seen) (ltb c 1024 && eqb k c)
-          ∙ ap (λ z. marked old c || z) (sym (and-or (ltb c 1024) seen (eqb k c)) ∙ ap (λ z. ltb c 1024 && z) (sym (any-below-more (test c) i ∙ ap (λ z. seen || (z && eqb k c)) e)));
+          ∙ ap (λ z. marked old c || z) (sym (and-or-distrib-left (ltb c 1024) seen (eqb k c)) ∙ ap (λ z. ltb c 1024 && z) (sym (any-below-more (test c) i ∙ ap (λ z. seen || (z && eqb k c)) e)));
     }
+
+-- ---- single places
+
+pub place-added : (old : List ℕ) (v : ℕ) → length old ≡ 1024 → v < 1024 → Added (eqb v) old (set old v 1)
+place-added old v long h = record { long = length-set old v 1 ∙ long; adds = λ w. set-marked old v w (omega arith) }
+
+-- a itself, if a test passes
+module _ (old : List ℕ) (a : ℕ) (b : Bool) (long : length old ≡ 1024) where
+  pub if-added : b ≡ true → a < 1024 → Added (λ v. eqb a v && b) old (set old a 1)
+  if-added e h = record {
+    long = length-set old a 1 ∙ long;
+    adds = λ v. set-marked old a v (omega arith) ∙ ap (λ z. marked old v || z) (sym (ap (λ z. eqb a v && z) e ∙ and-true (eqb a v)));
+  }
+
+  pub if-none : b ≡ false → Added (λ v. eqb a v && b) old old
+  if-none e = record { long = long; adds = λ v. sym (ap (λ z. marked old v || z) (ap (λ z. eqb a v && z) e ∙ and-false (eqb a v)) ∙ or-false (marked old v)) }

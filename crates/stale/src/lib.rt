@@ -1,15 +1,15 @@
-// The rows that a step makes stale, found by columns and marks: a byte for each place, 1 where marked. Each pass adds to its marks.
+// The rows that an event makes stale, found by columns and marks: a byte for each place, 1 where marked. Each pass adds to its marks.
 ghost use mathlib.Core.Path.{_≡_};
 ghost use Prim.Native.Nat.{_≤_, _<_};
 ghost use lib.ListN.{length};
 ghost use Rattle.finite.specs.Moments.{old, final};
 ghost use Rattle.table.specs.Table.{vertices, SoundTable};
 ghost use Rattle.pool.specs.Arrays.{Holds};
-ghost use Rattle.stale.specs.Marks.{Added, upTo, differs, carried, marking, looksThrough};
+ghost use Rattle.stale.specs.Marks.{Added, upTo, differs, carried, marking, insideBy, looksThrough};
 ghost use Rattle.stale.specs.Marks.{marked as markedIn, looks as looksBy};
-ghost use Rattle.stale.specs.Columns.{aboveBy, Finds};
+ghost use Rattle.stale.specs.Columns.{aboveBy, Brought, Finds};
 
-// The columns of a record that tell which rows a step makes stale; `above` counts the neighbors that are anchored or of higher level.
+// The columns of a record that tell which rows an event makes stale; `above` counts the neighbors that are anchored or of higher level.
 pub struct Columns {
     pub level: [u16; 1024],
     pub layer: [u16; 1024],
@@ -171,34 +171,76 @@ fn mark_lookers(
     }
 }
 
-// The rows that a step makes stale, from the columns before it and after it: of changed level, or looking into a changed component.
+// Marks a if a and b have one component number: an edge between them is inside a component.
+fn mark_inside(component: &[u16; 1024], a: usize, b: usize, bound: &mut [u8; 1024])
+    requires { ⌜ a < 1024 ⌝ }
+    requires { ⌜ b < 1024 ⌝ }
+    requires { ⌜ length (now bound) ≡ 1024 ⌝ }
+    ensures { λ _. ⌜ Added (insideBy (old component) a b) (old bound) (final bound) ⌝ }
+{
+    if component[a] == component[b] {
+        bound[a] = 1;
+    }
+}
+
+// What the edge between a and b brings when it is added or dropped, from the columns before and after, and the bare levels before, `bare`, and
+// after, `fresh`: as stale the rows of the two and of those whose bare level changed, and a as bound if the edge is inside a component before or after.
+pub fn mark_edge(
+    n: usize,
+    before: Columns,
+    after: Columns,
+    bare: &[u16; 1024],
+    fresh: &[u16; 1024],
+    a: usize,
+    b: usize,
+    bound: &mut [u8; 1024],
+    stale: &mut [u8; 1024],
+)
+    requires { ⌜ n ≤ 1024 ⌝ }
+    requires { ⌜ a < 1024 ⌝ }
+    requires { ⌜ b < 1024 ⌝ }
+    ensures { λ _. ⌜ Brought n before after (old bare) (old fresh) a b (final bound) (final stale) ⌝ }
+{
+    *bound = [0; 1024];
+    mark_inside(&before.component, a, b, bound);
+    mark_inside(&after.component, a, b, bound);
+    *stale = [0; 1024];
+    mark_differing(n, bare, fresh, stale);
+    stale[a] = 1;
+    stale[b] = 1;
+}
+
+// The rows that an event makes stale, from the columns before it and after it; the table is the one after it. `bound` marks vertices by whose
+// component numbers changed edges inside a component are told; `stale` comes in with the rows that the event itself brings: changed bare levels,
+// and the ends of its edge. Only these ends have other neighbors than before, so one table serves for who looks into a component before and after.
 pub fn mark_stale(
     starts: &[u16],
     links: &[u16],
     before: Columns,
     after: Columns,
+    bound: &[u8; 1024],
     stale: &mut [u8; 1024],
 )
     requires { ⌜ SoundTable (now starts) (now links) ⌝ }
-    ensures { λ _. ⌜ Finds (old starts) (old links) before after (final stale) ⌝ }
+    requires { ⌜ length (now bound) ≡ 1024 ⌝ }
+    requires { ⌜ length (now stale) ≡ 1024 ⌝ }
+    ensures { λ _. ⌜ Finds (old starts) (old links) before after (old bound) (old stale) (final stale) ⌝ }
 {
     let n = starts.len() - 1;
     let old_level = before.level;
     let old_layer = before.layer;
     let old_component = before.component;
-    let old_above = before.above;
     let level = after.level;
     let layer = after.layer;
     let component = after.component;
-    let above = after.above;
-    *stale = [0; 1024];
-    mark_differing(n, &old_level, &level, stale);
-    let mut unsteady = *stale;
+    let mut unsteady = *bound;
+    mark_differing(n, &old_level, &level, &mut unsteady);
     mark_differing(n, &old_component, &component, &mut unsteady);
-    mark_differing(n, &old_above, &above, &mut unsteady);
+    mark_differing(n, &before.above, &after.above, &mut unsteady);
     let mut changed = [0u8; 1024];
     mark_numbers(n, &old_component, &unsteady, &mut changed);
     mark_numbers(n, &component, &unsteady, &mut changed);
+    mark_differing(n, &old_level, &level, stale);
     mark_lookers(
         starts,
         links,

@@ -17,9 +17,11 @@ use Rattle.table.specs.Table.{vertices}
 use Rattle.anchored.specs.Graph.{Graph}
 use Rattle.anchored.specs.Followers.{adding, followers, followerCount}
 use Rattle.anchored.specs.Step.{recomputed}
-use Rattle.anchored.specs.Session.{Plain, statusOf, rowOf, turn, after}
+use Rattle.anchored.specs.Yield.{nobody}
+use Rattle.anchored.specs.Session.{Plain, stale, statusOf, rowOf, turn}
+use Rattle.anchored.proofs.Anchor.{free-of}
 use Rattle.anchored.proofs.Step.{kept-followers}
-use Rattle.anchored.proofs.Session.{status-free, turn-accepted, turn-refused, row-accepted, after-more, renewed-fresh}
+use Rattle.anchored.proofs.Session.{status-free, turn-accepted, turn-refused, row-accepted, renewed-fresh}
 use Rattle.pool.specs.Input.{graphOf, anchoredBy, Admitted}
 use Rattle.pool.specs.Arrays.{Holds}
 use Rattle.pool.proofs.Laws.{simple}
@@ -157,26 +159,26 @@ module _ {s l : List ℕ} {kept : Record} (right : Right s l kept) (x : ℕ) (bx
   bytes-after = anchored-set (kept .anchored) x (omega (arith, right .admitted .long))
 
   -- where the recomputed rows are counted afresh and stamped
-  module _ {position : ℕ} {folNow stNow : List ℕ} {redone : ℕ} (r : Redone s l bytes (recomputed G A (anchoredBy bytes)) position (kept .followers) (kept .stamp) folNow stNow redone (vertices s)) where
-    fresh-counts : Renewed (recomputed G A (adding A x)) (followers G (adding A x)) (kept .followers) folNow (vertices s)
+  module _ {position : ℕ} {folNow stNow : List ℕ} {redone : ℕ} (r : Redone s l bytes (recomputed G G A (anchoredBy bytes) nobody) position (kept .followers) (kept .stamp) folNow stNow redone (vertices s)) where
+    fresh-counts : Renewed (stale G A x) (followers G (adding A x)) (kept .followers) folNow (vertices s)
         → Holds (set folNow x 65535) (vertices s) (followerCount G (adding A x))
     unfolding followerCount
     fresh-counts counts v h =
         set-reads folNow x 65535 v (λ e. omega (arith, r .counts-long, right .counts-long))
-        ∙ ap (cond (eqb x v) 65535) (renewed-all (recomputed G A (adding A x)) (followers G (adding A x)) (kept .followers) folNow (vertices s) counts v h)
-        ∙ ap (λ z. cond (eqb x v) 65535 (cond (recomputed G A (adding A x) v) (followers G (adding A x) v) z)) (right .counts v h)
-        ∙ renewed-fresh 65535 G A x (followers G) v (λ t k. kept-followers G (simple (right .admitted .table)) A x v h t k)
+        ∙ ap (cond (eqb x v) 65535) (renewed-all (stale G A x) (followers G (adding A x)) (kept .followers) folNow (vertices s) counts v h)
+        ∙ ap (λ z. cond (eqb x v) 65535 (cond (stale G A x v) (followers G (adding A x) v) z)) (right .counts v h)
+        ∙ renewed-fresh 65535 G A x (followers G) v (λ t k. kept-followers G G (simple (right .admitted .table)) (simple (right .admitted .table)) refl A (adding A x) nobody v h (free-of A x v t) t refl k)
 
     -- with 65,535 put at x the follower counts are right
     counts-after : Holds (set folNow x 65535) (vertices s) (followerCount G (anchoredBy bytes))
-    counts-after = subst (λ B. Renewed (recomputed G A B) (followers G B) (kept .followers) folNow (vertices s) → Holds (set folNow x 65535) (vertices s) (followerCount G B))
+    counts-after = subst (λ B. Renewed (recomputed G G A B nobody) (followers G B) (kept .followers) folNow (vertices s) → Holds (set folNow x 65535) (vertices s) (followerCount G B))
         (sym bytes-after) fresh-counts (r .counts)
 
-    fresh-stamps : Renewed (recomputed G A (adding A x)) (λ v. position) (kept .stamp) stNow (vertices s) → Holds (set stNow x position) (vertices s) (turn G position x S .stamps)
+    fresh-stamps : Renewed (stale G A x) (λ v. position) (kept .stamp) stNow (vertices s) → Holds (set stNow x position) (vertices s) (turn G position x S .stamps)
     fresh-stamps stamps v h =
         set-reads stNow x position v (λ e. omega (arith, r .stamps-long, right .stamps-long))
-        ∙ ap (cond (eqb x v) position) (renewed-all (recomputed G A (adding A x)) (λ v. position) (kept .stamp) stNow (vertices s) stamps v h)
-        ∙ either (eqb x v) (recomputed G A (adding A x) v)
+        ∙ ap (cond (eqb x v) position) (renewed-all (stale G A x) (λ v. position) (kept .stamp) stNow (vertices s) stamps v h)
+        ∙ either (eqb x v) (stale G A x v)
         ∙ ap (λ P. P .stamps v) (sym (turn-accepted G S x position accepted))
       where
         either : (b c : Bool) → cond b position (cond c position (getD (kept .stamp) v 0)) ≡ cond (b || c) position (getD (kept .stamp) v 0)
@@ -185,13 +187,13 @@ module _ {s l : List ℕ} {kept : Record} (right : Right s l kept) (x : ℕ) (bx
 
     -- with the position put at x the stamps are those of the plain session's turn
     stamps-after : Holds (set stNow x position) (vertices s) (turn G position x S .stamps)
-    stamps-after = subst (λ B. Renewed (recomputed G A B) (λ v. position) (kept .stamp) stNow (vertices s) → Holds (set stNow x position) (vertices s) (turn G position x S .stamps))
+    stamps-after = subst (λ B. Renewed (recomputed G G A B nobody) (λ v. position) (kept .stamp) stNow (vertices s) → Holds (set stNow x position) (vertices s) (turn G position x S .stamps))
         (sym bytes-after) fresh-stamps (r .stamps)
 
     -- the numbers are those of the request
     row-after : rowOf G S x ≡ record { status = 0; lifted = followers G A x; redone = redone }
     row-after = row-accepted G S x accepted
-        ∙ ap (λ (n : ℕ). record { status = 0; lifted = followers G A x; redone = n }) (ap (λ B. count (recomputed G A B) (below (vertices s))) (sym bytes-after) ∙ sym (r .number))
+        ∙ ap (λ (n : ℕ). record { status = 0; lifted = followers G A x; redone = n }) (ap (λ B. count (recomputed G G A B nobody) (below (vertices s))) (sym bytes-after) ∙ sym (r .number))
 
     -- the count that the record has for x is the number lifted
     row-counted : rowAs (record { status = 0; lifted = getD (kept .followers) x 0; redone = redone }) ≡ rowOf G S x
@@ -228,7 +230,7 @@ unfolding turn
 turn-anchors G position x S = let accepts = eqb (statusOf G (S .anchors) x) 0 in split accepts (λ t. rw (true-of accepts t)) (λ t. rw (false-of accepts t))
 
 turn-stamps : (G : Graph) (position x : ℕ) (S : Plain) (v : ℕ) → let A = S .anchors in
-    turn G position x S .stamps v ≡ cond (eqb (statusOf G A x) 0) (cond (eqb x v || recomputed G A (adding A x) v) position (S .stamps v)) (S .stamps v)
+    turn G position x S .stamps v ≡ cond (eqb (statusOf G A x) 0) (cond (eqb x v || stale G A x v) position (S .stamps v)) (S .stamps v)
 unfolding turn
 turn-stamps G position x S v = let accepts = eqb (statusOf G (S .anchors) x) 0 in split accepts (λ t. rw (true-of accepts t)) (λ t. rw (false-of accepts t))
 
@@ -237,12 +239,7 @@ module _ (s l : List ℕ) where
     abbrev own : Plain
     own = plainOf kept
 
-    -- a request has the numbers that it has in the plain session
-    pub stands-row : (x : ℕ) → rowOf (graphOf s l) own x ≡ rowOf (graphOf s l) S x
-    unfolding rowOf
-    stands-row x = ap (λ B. rowOf (graphOf s l) (record { anchors = B; stamps = S .stamps }) x) (h .anchors)
-
-    -- and leaves what it leaves there
+    -- a request leaves what it leaves in the plain session
     stands-anchors : (position x : ℕ) → turn (graphOf s l) position x own .anchors ≡ turn (graphOf s l) position x S .anchors
     stands-anchors position x =
         turn-anchors (graphOf s l) position x own
@@ -252,7 +249,7 @@ module _ (s l : List ℕ) where
     stands-stamps : (position x v : ℕ) → v < vertices s → turn (graphOf s l) position x own .stamps v ≡ turn (graphOf s l) position x S .stamps v
     stands-stamps position x v b =
         let G = graphOf s l in
-        let stamped : (ℕ → Bool) → ℕ → ℕ = λ B z. cond (eqb (statusOf G B x) 0) (cond (eqb x v || recomputed G B (adding B x) v) position z) z in
+        let stamped : (ℕ → Bool) → ℕ → ℕ = λ B z. cond (eqb (statusOf G B x) 0) (cond (eqb x v || stale G B x v) position z) z in
         turn-stamps G position x own v
         ∙ ap (λ B. stamped B (getD (kept .stamp) v 0)) (h .anchors)
         ∙ ap (stamped (S .anchors)) (h .stamps v b)
@@ -261,13 +258,6 @@ module _ (s l : List ℕ) where
     -- so what stands for its turn of the record's session stands for its turn of the plain session
     pub stands-turn : {next : Record} (position x : ℕ) → Stands (vertices s) next (turn (graphOf s l) position x own) → Stands (vertices s) next (turn (graphOf s l) position x S)
     stands-turn position x g = record { anchors = g .anchors ∙ stands-anchors position x; stamps = λ v b. g .stamps v b ∙ stands-stamps position x v b }
-
-  -- one request more
-  pub stands-more : (given requests : List ℕ) (i : ℕ) {kept next : Record} → Stands (vertices s) kept (after (graphOf s l) (anchoredBy given) requests i)
-      → Stands (vertices s) next (turn (graphOf s l) (i + 1) (getD requests i 0) (plainOf kept))
-      → Stands (vertices s) next (after (graphOf s l) (anchoredBy given) requests (i + 1))
-  stands-more given requests i {kept} {next} h g =
-      subst (Stands (vertices s) next) (sym (after-more (graphOf s l) (anchoredBy given) requests i)) (stands-turn h (i + 1) (getD requests i 0) g)
 
 -- the two refusals of a request leave the record: no vertex, or one that is anchored
 module _ {s l : List ℕ} {kept : Record} (right : Right s l kept) (position x : ℕ) where

@@ -37,7 +37,7 @@ fn is_stale(anchored: &[u8; 1024], marks: &[u8; 1024], u: usize) -> bool
 }
 
 // The stale rows are counted afresh and stamped, and no other; how many they are.
-fn redo(
+pub fn redo(
     starts: &[u16],
     links: &[u16],
     anchored: &[u8; 1024],
@@ -89,8 +89,9 @@ fn accept(starts: &[u16], links: &[u16], kept: Record, x: usize, position: u16) 
     let mut anchored = kept.anchored;
     anchored[x] = 1;
     let columns = records::afresh::refresh(starts, links, &anchored);
+    let bound = [0u8; 1024];
     let mut marks = [0u8; 1024];
-    stale::mark_stale(starts, links, kept.columns, columns, &mut marks);
+    stale::mark_stale(starts, links, kept.columns, columns, &bound, &mut marks);
     let mut followers = kept.followers;
     let mut stamp = kept.stamp;
     let lifted = followers[x];

@@ -8,7 +8,7 @@ ghost use Rattle.table.specs.Guard.{answer, refused as refusedOf};
 ghost use Rattle.table.specs.declared.Checked.the-variants.{Sound, Refused as RefusedTable};
 
 mod paired; // the one pass that a sound table passes
-mod part; // one vertex's neighbors
+pub mod part; // one vertex's neighbors
 mod rules; // the first start, or the first vertex, that breaks a rule
 
 // A refusal: document 01's number and place.

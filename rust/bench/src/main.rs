@@ -4,6 +4,7 @@
 mod clock;
 mod measures;
 mod report;
+mod sessions;
 
 fn main() -> std::io::Result<()> {
     let seeds: Vec<u64> = (1..=5).collect();
@@ -12,7 +13,8 @@ fn main() -> std::io::Result<()> {
     lines.extend(measures::sheets(&seeds));
     lines.extend(measures::search(&seeds));
     lines.extend(measures::collapse(&seeds));
-    lines.extend(measures::session(&seeds));
+    lines.extend(sessions::anchoring(&seeds));
+    lines.extend(sessions::events(&seeds));
     lines.extend(measures::rounds(&seeds));
     let table = report::table(&lines, seeds.len());
     print!("{table}");

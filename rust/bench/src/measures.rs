@@ -1,6 +1,7 @@
 //! What is measured. Both sides of a line run on the same pool, one after the other.
 
 use crate::clock;
+use crate::sessions::{run, List};
 use planner::{Input, Record};
 use pools::{Pool, Random};
 use reference::quick::{self, Cores, TwoWorkings};
@@ -14,7 +15,7 @@ pub struct Line {
 }
 
 impl Line {
-    fn new(ours: &str, theirs: &str) -> Line {
+    pub fn new(ours: &str, theirs: &str) -> Line {
         Line { ours: ours.into(), theirs: theirs.into(), times: vec![] }
     }
 }
@@ -25,14 +26,14 @@ pub fn median(mut times: Vec<f64>) -> f64 {
 }
 
 /// What a call takes of the processor, in microseconds: time that other programs take does not count.
-fn time(call: &mut dyn FnMut()) -> f64 {
+pub fn time(call: &mut dyn FnMut()) -> f64 {
     let start = clock::thread();
     call();
     (clock::thread() - start) * 1e6
 }
 
 /// The time of each call on average over a row of them, the least of several rows; the calls take turns row by row.
-fn times<const N: usize>(rows: usize, row: usize, mut calls: [&mut dyn FnMut(); N]) -> [f64; N] {
+pub fn times<const N: usize>(rows: usize, row: usize, mut calls: [&mut dyn FnMut(); N]) -> [f64; N] {
     let mut least = [f64::MAX; N];
     for _ in 0..rows {
         for (i, call) in calls.iter_mut().enumerate() {
@@ -43,7 +44,7 @@ fn times<const N: usize>(rows: usize, row: usize, mut calls: [&mut dyn FnMut(); 
 }
 
 /// 1,000 vertices and 5,000 random edges, none anchored.
-fn thousand(seed: u64) -> Pool {
+pub fn thousand(seed: u64) -> Pool {
     Pool::random(&mut Random(seed * 7919), 1000, 5000)
 }
 
@@ -51,7 +52,7 @@ fn input(pool: &Pool) -> Input<'_> {
     Input { starts: &pool.starts, links: &pool.links, anchored: &pool.anchored }
 }
 
-fn plain(pool: &Pool) -> quick::Pool<'_> {
+pub fn plain(pool: &Pool) -> quick::Pool<'_> {
     quick::Pool { starts: &pool.starts, links: &pool.links }
 }
 
@@ -187,6 +188,8 @@ pub fn search(seeds: &[u64]) -> Vec<Line> {
         let pools = several(seed);
         let (mut marks, mut record, mut again) = (vec![0u8; 1000], Record::room(1000, 0), Sheet::room(1000));
         let (sheets, mut yields, none) = (worked(&pools), vec![], vec![false; 1000]);
+        // a session without events leaves the table as it is
+        let (mut lent, no_events): (Vec<Pool>, _) = (pools.iter().map(|pool| pool.lent(0)).collect(), List::default());
         let [fresh, searches, start, cores] = times(
             3,
             1,
@@ -199,7 +202,7 @@ pub fn search(seeds: &[u64]) -> Vec<Line> {
                         }
                     }
                 },
-                &mut || pools.iter().for_each(|pool| planner::run(input(pool), &[], &mut record).unwrap()),
+                &mut || lent.iter_mut().for_each(|pool| run(pool, &no_events, &mut record)),
                 &mut || {
                     for pool in pools.iter().map(plain) {
                         yields = quick::net_yields(pool, &none, &quick::bare_levels(pool));
@@ -283,64 +286,6 @@ pub fn collapse(seeds: &[u64]) -> Vec<Line> {
         .map(|pass| pass / POOLS as f64);
         assert_eq!(marks.iter().filter(|&&mark| mark == 1).count(), 1006);
         lines[2].times.push((ours, fresh));
-    }
-    lines.into()
-}
-
-/// Every row afresh: the sheet, and a working of all levels for each vertex not anchored. The net yields.
-fn fresh_rows(pool: &Pool, set: &[bool], bare: &[u16]) -> Vec<i16> {
-    black_box(quick::sheet(plain(pool), set));
-    quick::net_yields(plain(pool), set, bare)
-}
-
-/// A session by bare levels once, and fresh rows at the start and after each name; the net yields at the end.
-fn fresh_session(pool: &Pool, names: &[u16]) -> Vec<i16> {
-    let (mut set, bare) = (vec![false; pool.size()], quick::bare_levels(plain(pool)));
-    let mut yields = fresh_rows(pool, &set, &bare);
-    for &x in names {
-        set[x as usize] = true;
-        yields = fresh_rows(pool, &set, &bare);
-    }
-    yields
-}
-
-/// The plain side serves this many names of a session, and works the rows after each 50th: all of them would take minutes.
-const FEW: usize = 25;
-
-pub fn session(seeds: &[u64]) -> Vec<Line> {
-    let on = "session on 1,024 vertices, 5,000 edges";
-    let mut lines = [
-        Line::new(&format!("{on}: the first {FEW} of 1,000 names"), &format!("plain Rust: the same {FEW} names, every row afresh after each")),
-        Line::new(&format!("{on}: one name, average over all 1,000"), "plain Rust: every row afresh after one name, average over each 50th of the 1,000 (the others not run)"),
-    ];
-    for &seed in seeds {
-        let mut random = Random(seed * 104729);
-        let pool = Pool::random(&mut random, 1024, 5000);
-        let mut names: Vec<u16> = (0..1024).collect();
-        random.shuffle(&mut names);
-        names.truncate(1000);
-        let (mut record, mut whole, mut yields) = (Record::room(1024, FEW), Record::room(1024, 1000), vec![]);
-        let few = times(
-            3,
-            1,
-            [
-                &mut || planner::run(input(&pool), &names[..FEW], &mut record).unwrap(),
-                &mut || yields = fresh_session(&pool, &names[..FEW]),
-            ],
-        );
-        assert_eq!(record.yields, yields);
-        let all = time(&mut || planner::run(input(&pool), &names, &mut whole).unwrap());
-        assert!(whole.status.iter().all(|&status| status == 0));
-        let (mut set, mut sampled, bare) = (vec![false; 1024], vec![], quick::bare_levels(plain(&pool)));
-        for (i, &x) in names.iter().enumerate() {
-            set[x as usize] = true;
-            if i % 50 == 49 {
-                sampled.push(time(&mut || yields = fresh_rows(&pool, &set, &bare)));
-            }
-        }
-        assert_eq!(whole.yields, yields);
-        lines[0].times.push((few[0], few[1]));
-        lines[1].times.push((all / 1000.0, sampled.iter().sum::<f64>() / sampled.len() as f64));
     }
     lines.into()
 }

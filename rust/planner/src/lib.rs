@@ -39,8 +39,39 @@ pub struct Found {
     pub reached: usize,
 }
 
-/// What a session fills: six slices of a number for each vertex, three of a number for each request. A net yield is how many followers the
+/// The link places of a table that is lent to a session.
+pub const LINK_PLACES: usize = 16384;
+
+/// A table lent for writing: `links` has exactly [`LINK_PLACES`] places, of which the last start says how many are links.
+pub struct Table<'a> {
+    pub starts: &'a mut [u16],
+    pub links: &'a mut [u16],
+}
+
+/// The kind of an event that anchors its first vertex. Its second number is ignored.
+pub const ANCHOR: u16 = 0;
+
+/// The kind of an event that adds the edge between its two vertices.
+pub const ADD_EDGE: u16 = 1;
+
+/// The kind of an event that drops the edge between its two vertices.
+pub const DROP_EDGE: u16 = 2;
+
+/// A session's events, at most 4,096: event i is of kind `kinds[i]`, [`ANCHOR`], [`ADD_EDGE`] or [`DROP_EDGE`], and has the numbers
+/// `firsts[i]` and `seconds[i]`. Three lists of one length, or the call is refused with 9.
+#[derive(Clone, Copy)]
+pub struct Events<'a> {
+    pub kinds: &'a [u16],
+    pub firsts: &'a [u16],
+    pub seconds: &'a [u16],
+}
+
+/// What a session fills: six slices of a number for each vertex, three of a number for each event. A net yield is how many followers the
 /// vertex has, less what it has climbed above its level with nobody anchored; it is -32,768 for an anchored vertex.
+///
+/// An event's status is 0 if it was done. Else it changed nothing, and is the first of these that holds: 10 its kind is above 2; 6 it adds
+/// or drops an edge between a number and itself; 15 one of its vertices is none; 16 it anchors a vertex that is anchored already; 22 it
+/// adds an edge that is there, or drops one that is not; 23 it adds an edge and there is no place for two more links.
 #[derive(Clone, PartialEq, Eq, Debug, Default)]
 pub struct Record {
     pub anchored: Vec<u8>,
@@ -55,9 +86,9 @@ pub struct Record {
 }
 
 impl Record {
-    /// Room for n vertices and m requests.
+    /// Room for n vertices and m events.
     pub fn room(n: usize, m: usize) -> Record {
-        let (vertices, requests) = (vec![0; n], vec![0; m]);
+        let (vertices, events) = (vec![0; n], vec![0; m]);
         Record {
             anchored: vec![0; n],
             levels: vertices.clone(),
@@ -65,9 +96,9 @@ impl Record {
             components: vertices.clone(),
             yields: vec![0; n],
             stamps: vertices,
-            status: requests.clone(),
-            lifted: requests.clone(),
-            redone: requests,
+            status: events.clone(),
+            lifted: events.clone(),
+            redone: events,
         }
     }
 }
@@ -147,14 +178,16 @@ pub fn collapse(input: Input, levels: &[u16], layers: &[u16], x: usize, marks: &
     .done()
 }
 
-/// A session: the input's bytes are those at the start, the record's those at the end.
-pub fn run(input: Input, requests: &[u16], record: &mut Record) -> Result<(), Refusal> {
-    let Input { starts, links, anchored: given } = input;
+/// A session: the table and `given`, who is anchored, are as they are at the start. The call leaves the table as the events left it, with 0
+/// in every place past its last start, and fills the record. A refusal leaves all of it alone.
+pub fn run(table: Table, given: &[u8], events: Events, record: &mut Record) -> Result<(), Refusal> {
+    let (Table { starts, links }, Events { kinds, firsts, seconds }) = (table, events);
     let Record { anchored, levels, layers, components, yields, stamps, status, lifted, redone } = record;
     // SAFETY: pointers and lengths of live slices, no other borrow of those for writing; the call is proved to stay in them and keeps none.
     unsafe {
         exports::planner_run(
-            starts.as_ptr(), starts.len(), links.as_ptr(), links.len(), given.as_ptr(), given.len(), requests.as_ptr(), requests.len(),
+            starts.as_mut_ptr(), starts.len(), links.as_mut_ptr(), links.len(), given.as_ptr(), given.len(),
+            kinds.as_ptr(), kinds.len(), firsts.as_ptr(), firsts.len(), seconds.as_ptr(), seconds.len(),
             anchored.as_mut_ptr(), anchored.len(), levels.as_mut_ptr(), levels.len(), layers.as_mut_ptr(), layers.len(),
             components.as_mut_ptr(), components.len(), yields.as_mut_ptr(), yields.len(), stamps.as_mut_ptr(), stamps.len(),
             status.as_mut_ptr(), status.len(), lifted.as_mut_ptr(), lifted.len(), redone.as_mut_ptr(), redone.len(),

@@ -17,23 +17,24 @@ impl Refusal {
     }
 }
 
-/// In words that are true of every call that can answer the number; 11 and 12 name two things, and the call tells which.
+/// In words that are true of every call that can answer the number; 3, 9, 11 and 12 name several things, and the call tells which. No call
+/// answers 22 or 23: they are statuses of events.
 impl fmt::Display for Refusal {
     fn fmt(&self, f: &mut fmt::Formatter) -> fmt::Result {
         let Refusal { number, place } = self;
         match number {
             1 => f.write_str("the table has no starts"),
             2 => f.write_str("there are more than 1,024 riders"),
-            3 => f.write_str("there are more than 16,384 partners in all lists together"),
+            3 => f.write_str("there are more than 16,384 partners in all lists together, or the last start says so"),
             4 => write!(f, "start {place} is wrong: the first is 0, none is below the one before, the last is the number of links"),
             5 => write!(f, "rider {place} lists a number that is no rider's"),
             6 => write!(f, "rider {place} lists himself"),
             7 => write!(f, "the list of rider {place} is not strictly ascending"),
             8 => write!(f, "rider {place} lists a partner who does not list him"),
-            9 => f.write_str("there is not one retained byte for each rider"),
+            9 => f.write_str("there is not one retained byte for each rider, or the lists of events are not of one length"),
             10 => write!(f, "the retained byte of rider {place} is above 1"),
-            11 => f.write_str("there are more than 4,096 names or more than 60 rounds"),
-            12 => f.write_str("a lent slice does not have its stated length, or is too small for the sheet"),
+            11 => f.write_str("there are more than 4,096 events or more than 60 rounds"),
+            12 => f.write_str("a lent slice does not have its stated length, for a session's links 16,384, or is too small for the sheet"),
             13 => f.write_str("the sheet has not one level and one layer for each rider"),
             14 => write!(f, "the entry of rider {place} is not 65,535 and 0 though he is retained, or has layer 0 though he is not"),
             15 => write!(f, "{place} is no rider's number"),

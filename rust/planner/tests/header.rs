@@ -22,13 +22,17 @@ collapse: 0 0 0
 check_sheet: 0 0 0
 check_sheet with a layer of 9: 21 1 0
 run: 0 0 0
+  starts 0 2 3 5 6
+  links 1 2 0 0 3 2
   anchored 1 0 0 1
-  levels 65535 2 2 65535
-  yields -32768 -1 -1 -32768
-  stamps 0 1 1 1
-  status 0 15
-  lifted 2 0
-  redone 2 0
+  levels 65535 1 2 65535
+  layers 0 1 1 0
+  components 65535 1 2 65535
+  yields -32768 0 -1 -32768
+  stamps 0 3 3 1
+  status 0 0 0 22 15
+  lifted 2 0 0 0 0
+  redone 2 2 2 0 0
 text_to_sheet: 12 0
 text_to_sheet: 0 50
 (round 01 (retain 0000) (marks ..) (redone 0000))

@@ -1,4 +1,4 @@
-//! The words of refusals: every number has its own, in rust/planner and in include/planner.h.
+//! The words of refusals: every number has its own, in rust/planner and in include/planner.h; and the statuses of events in the latter.
 
 mod source;
 
@@ -6,7 +6,7 @@ use planner::Refusal;
 use std::collections::BTreeSet;
 use std::error::Error;
 
-/// Documents 01 and 02 have given the numbers from 1 up to this one so far.
+/// Calls answer the numbers from 1 up to this one; those that follow are statuses of events.
 const LAST: u64 = 21;
 
 /// Those whose place is not always 0.
@@ -23,7 +23,7 @@ fn every_number_has_words() {
     let all: BTreeSet<String> = (1..=LAST).map(|number| words(number, 0)).collect();
     assert_eq!(all.len() as u64, LAST);
     assert!((1..=LAST).all(|number| words(number, 0) != unknown(number)));
-    assert!([0, LAST + 1, u64::MAX].into_iter().all(|number| words(number, 3) == unknown(number)));
+    assert!([0, LAST + 1, LAST + 2, u64::MAX].into_iter().all(|number| words(number, 3) == unknown(number)));
     for number in 1..=LAST {
         let told = words(number, 777);
         assert_eq!(told.contains("777"), PLACED.contains(&number), "{told}");
@@ -43,4 +43,12 @@ fn the_header_lists_them() {
     assert!(rows.iter().map(|&(number, _)| number).eq(1..=LAST), "{rows:?}");
     let placed = rows.iter().filter(|(_, place)| *place != "0").map(|&(number, _)| number);
     assert!(placed.eq(PLACED), "{rows:?}");
+}
+
+/// The statuses of events in the order of their tests, each on a line of its own as the number and a colon.
+#[test]
+fn the_header_lists_statuses() {
+    let header = source::file("include/planner.h");
+    let number = |line: &str| line.strip_prefix(" * ")?.trim_start().split_once(": ")?.0.parse::<u64>().ok();
+    assert!(header.lines().filter_map(number).eq([10, 6, 15, 16, 22, 23]));
 }

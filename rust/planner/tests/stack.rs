@@ -2,7 +2,7 @@
 
 mod shared;
 
-use planner::Record;
+use planner::{Events, Record, Table, ADD_EDGE, ANCHOR, DROP_EDGE};
 use pools::Pool;
 use shared::input;
 use std::thread::Builder;
@@ -20,7 +20,11 @@ fn every_call(pool: &Pool) {
     planner::check_sheet(input(pool), &levels, &layers).unwrap();
     planner::followers(input(pool), &levels, &layers, 0, &mut marks).unwrap();
     planner::collapse(input(pool), &levels, &layers, 0, &mut marks).unwrap();
-    planner::run(input(pool), &[0, 9], &mut Record::room(n, 2)).unwrap();
+    let (mut lent, mut record) = (pool.lent(0), Record::room(n, 3));
+    let table = Table { starts: &mut lent.starts, links: &mut lent.links };
+    let events = Events { kinds: &[ANCHOR, ADD_EDGE, DROP_EDGE], firsts: &[9; 3], seconds: &[7; 3] };
+    planner::run(table, &pool.anchored, events, &mut record).unwrap();
+    assert_eq!(record.status, [0; 3]);
     planner::text_to_sheet(&pool.text(2), &mut vec![0; 64320]).unwrap();
 }
 

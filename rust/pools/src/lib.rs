@@ -1,5 +1,6 @@
-//! Pools to test and to measure by: a deterministic generator, random tables, small ones by enumeration, and their texts.
+//! Pools to test and to measure by: a deterministic generator, random tables, small ones by enumeration, their texts, and events on them.
 
+use reference::{Event, PLACES};
 use std::collections::BTreeSet;
 use std::fs;
 use std::path::{Path, PathBuf};
@@ -17,6 +18,11 @@ impl Random {
 
     pub fn one_in(&mut self, n: usize) -> bool {
         self.below(n) == 0
+    }
+
+    /// A vertex of n, or now and then a number that is none.
+    pub fn vertex(&mut self, n: usize) -> usize {
+        if self.one_in(40) { 65535 - self.below(3) } else { self.below(n + 1) }
     }
 
     /// In random order.
@@ -110,6 +116,55 @@ impl Pool {
     /// The neighbors of v.
     pub fn list(&self, v: usize) -> &[u16] {
         &self.links[self.starts[v] as usize..self.starts[v + 1] as usize]
+    }
+
+    /// The edges, each once, the lower vertex first.
+    pub fn edges(&self) -> Vec<(usize, usize)> {
+        let above = |v: usize| self.list(v).iter().map(move |&u| (v, u as usize)).filter(|(v, u)| v < u);
+        (0..self.size()).flat_map(above).collect()
+    }
+
+    /// The same table with as many link places as a session is lent, those past its links holding `rest`.
+    pub fn lent(&self, rest: u16) -> Pool {
+        let (used, mut links) = (self.links.len().min(PLACES), vec![rest; PLACES]);
+        links[..used].copy_from_slice(&self.links[..used]);
+        Pool { starts: self.starts.clone(), links, anchored: self.anchored.clone() }
+    }
+
+    /// Every event on the vertices and one number that is none: anchoring, with second numbers that do not matter; each ordered pair added
+    /// and dropped, those of a number with itself too; and a kind that is none. They are (n + 1) * (2n + 3) + 1.
+    pub fn all_events(&self) -> Vec<Event> {
+        let n = self.size() as u16;
+        let anchors = (0..=n).map(|v| Event { kind: 0, first: v, second: [v, 0, n, 65535][v as usize % 4] });
+        let pairs = (0..=n).flat_map(|u| (0..=n).map(move |v| (u, v)));
+        let edges = pairs.flat_map(|(u, v)| [Event::add_edge(u, v), Event::drop_edge(u, v)]);
+        anchors.chain(edges).chain([Event { kind: 3, first: 0, second: 1 }]).collect()
+    }
+
+    /// So many events of all kinds, in shares drawn for the list. Most edges that are dropped are there when their turn comes; some events
+    /// are refused in each way that small tables know.
+    pub fn random_events(&self, random: &mut Random, length: usize) -> Vec<Event> {
+        let (n, share, mut edges) = (self.size(), 2 + random.below(8), self.edges());
+        let mut events = vec![];
+        for _ in 0..length {
+            let (mut u, mut v) = (random.vertex(n), random.vertex(n));
+            let kind = match random.one_in(share) {
+                true if random.one_in(8) => 3 + random.below(65533),
+                true => 0,
+                false => 1 + random.below(2),
+            };
+            if kind == 2 && !edges.is_empty() && !random.one_in(8) {
+                (u, v) = edges.swap_remove(random.below(edges.len()));
+                if random.one_in(2) {
+                    (u, v) = (v, u);
+                }
+            }
+            if kind == 1 && u != v && u.max(v) < n {
+                edges.push((u, v));
+            }
+            events.push(Event { kind: kind as u16, first: u as u16, second: v as u16 });
+        }
+        events
     }
 
     /// One or two changes that mostly break a rule.

@@ -2,7 +2,11 @@
 //! working, sessions with everything fresh. Nothing here follows the planner's own code.
 
 pub mod quick;
+mod sessions;
 
+pub use sessions::{admit_session, session, Call, Event, Plain, Record, Session, PLACES};
+
+use sessions::State;
 use std::cmp::Reverse;
 use std::collections::{BTreeMap, BTreeSet};
 
@@ -12,6 +16,7 @@ pub type Refusal = (u32, u64);
 pub const ANCHORED: u16 = 65535;
 
 /// Vertices with their neighbors, from a table that passed the check.
+#[derive(Clone, PartialEq, Eq, Hash)]
 pub struct Graph {
     pub neighbors: Vec<BTreeSet<usize>>,
 }
@@ -194,6 +199,7 @@ pub fn admit(starts: &[u16], links: &[u16], bytes: &[u8]) -> Result<(Graph, Vec<
 }
 
 /// Anchors, and the sheet that is defined with them.
+#[derive(Clone)]
 pub struct Anchoring {
     pub anchored: Vec<bool>,
     pub sheet: Sheet,
@@ -284,90 +290,11 @@ fn net_yield(graph: &Graph, at: &Anchoring, bare: &[u16], x: usize) -> i16 {
     count(&followers(at, &at.with(graph, x))) as i16 - climb
 }
 
-fn component_of(s: &Sheet, v: usize) -> BTreeSet<usize> {
-    (0..s.component.len()).filter(|&w| s.component[w] == s.component[v]).collect()
-}
-
-/// Partners who are anchored or of higher level.
-fn above(graph: &Graph, at: &Anchoring, v: usize) -> usize {
-    graph.neighbors[v].iter().filter(|&&u| at.anchored[u] || at.sheet.level[u] > at.sheet.level[v]).count()
-}
-
-/// The rows recomputed by the step from `a` to `b`.
-fn recomputed(graph: &Graph, a: &Anchoring, b: &Anchoring) -> Vec<bool> {
-    let n = graph.size();
-    let undisturbed = |v: usize| {
-        !a.anchored[v]
-            && !b.anchored[v]
-            && a.sheet.level[v] == b.sheet.level[v]
-            && component_of(&a.sheet, v) == component_of(&b.sheet, v)
-            && component_of(&a.sheet, v).iter().all(|&w| above(graph, a, w) == above(graph, b, w))
-    };
-    let calm: Vec<bool> = (0..n).map(undisturbed).collect();
-    let looks = |at: &Anchoring, u: usize| {
-        let pair = |v: usize| (at.sheet.level[v], at.sheet.layer[v]);
-        graph.neighbors[u].iter().any(|&v| !at.anchored[v] && pair(v) > pair(u) && !calm[v])
-    };
-    let moved = |u: usize| a.sheet.level[u] != b.sheet.level[u];
-    (0..n).map(|u| !b.anchored[u] && (looks(a, u) || looks(b, u) || moved(u))).collect()
-}
-
-/// The record of a session, and the three numbers of each request.
-#[derive(Clone, PartialEq, Debug)]
-pub struct Record {
-    pub anchored: Vec<u8>,
-    pub sheet: Sheet,
-    pub yields: Vec<i16>,
-    pub stamps: Vec<u16>,
-    pub status: Vec<u16>,
-    pub followers: Vec<u16>,
-    pub recomputed: Vec<u16>,
-}
-
-/// The plain session, everything fresh.
-pub fn session(graph: &Graph, start: &[bool], requests: &[u16]) -> Record {
-    let n = graph.size();
-    let bare = bare_levels(graph);
-    let mut at = Anchoring::new(graph, start);
-    let mut stamps = vec![0u16; n];
-    let (mut status, mut up, mut again) = (vec![], vec![], vec![]);
-    for (i, &request) in requests.iter().enumerate() {
-        let x = request as usize;
-        if x >= n || at.anchored[x] {
-            status.push(if x >= n { 15 } else { 16 });
-            up.push(0);
-            again.push(0);
-            continue;
-        }
-        let next = at.with(graph, x);
-        let rows = recomputed(graph, &at, &next);
-        status.push(0);
-        up.push(count(&followers(&at, &next)) as u16);
-        again.push(count(&rows) as u16);
-        for v in 0..n {
-            if v == x || rows[v] {
-                stamps[v] = i as u16 + 1;
-            }
-        }
-        at = next;
-    }
-    Record {
-        anchored: at.anchored.iter().map(|&b| b as u8).collect(),
-        yields: (0..n).map(|v| net_yield(graph, &at, &bare, v)).collect(),
-        sheet: at.sheet,
-        stamps,
-        status,
-        followers: up,
-        recomputed: again,
-    }
-}
-
 /// The vertex a round anchors, if anyone is left: of greatest net yield, the lowest among equals.
-fn choice(graph: &Graph, at: &Anchoring, bare: &[u16]) -> Option<usize> {
-    let free: Vec<usize> = (0..graph.size()).filter(|&v| !at.anchored[v]).collect();
-    let yields: Vec<i16> = free.iter().map(|&v| net_yield(graph, at, bare, v)).collect();
-    let best = yields.iter().max()?;
-    yields.iter().position(|net| net == best).map(|i| free[i])
+fn choice(state: &State) -> Option<usize> {
+    let free = || (0..state.graph.size()).filter(|&v| !state.at.anchored[v]);
+    let best = free().map(|v| state.yields()[v]).max()?;
+    free().find(|&v| state.yields()[v] == best)
 }
 
 /// One line of the answer sheet.
@@ -379,15 +306,15 @@ fn line(round: usize, chosen: Option<usize>, up: &[bool], rows: usize) -> String
 
 /// The lines of the answer sheet.
 pub fn rounds(graph: &Graph, start: &[bool], number: usize) -> Vec<u8> {
-    let bare = bare_levels(graph);
-    let mut at = Anchoring::new(graph, start);
+    let mut state = State::new(graph.clone(), start);
     let mut out = String::new();
     for r in 1..=number {
-        match choice(graph, &at, &bare) {
+        match choice(&state) {
             Some(x) => {
-                let next = at.with(graph, x);
-                out.push_str(&line(r, Some(x), &followers(&at, &next), count(&recomputed(graph, &at, &next))));
-                at = next;
+                let event = Event::anchor(x as u16);
+                let next = state.after(event);
+                out.push_str(&line(r, Some(x), &followers(&state.at, &next.at), count(&state.recomputed(&next, event))));
+                state = next;
             }
             None => out.push_str(&line(r, None, &vec![false; graph.size()], 0)),
         }

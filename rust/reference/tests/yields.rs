@@ -1,11 +1,11 @@
 //! Net yields, rows redone and the choices of rounds, where they are told by hand.
 
 use pools::Pool;
-use reference::{Anchoring, Record};
+use reference::{Anchoring, Event, Record};
 
-fn session(pool: &Pool, requests: &[u16]) -> Record {
+fn session(pool: &Pool, names: &[u16]) -> Record {
     let (graph, set) = reference::admit(&pool.starts, &pool.links, &pool.anchored).unwrap();
-    reference::session(&graph, &set, requests)
+    reference::session(&graph, &set, &names.iter().copied().map(Event::anchor).collect::<Vec<_>>())
 }
 
 /// Whom the first round anchors, and whom it would by followers alone.

@@ -39,9 +39,10 @@ impl fmt::Display for Answer {
     }
 }
 
-/// The refusal's own words; for 11, 12 and 15, which are wider because other calls have them too, those that fit a text.
+/// The refusal's own words; for 3, 11, 12 and 15, which are wider because other calls have them too, those that fit a text.
 fn said_of_text(refusal: Refusal) -> String {
     match refusal.number {
+        3 => "there are more than 16,384 partners in all lists together".into(),
         11 => "there are more than 60 rounds".into(),
         12 => "the room for the sheet is too small".into(),
         15 => format!("{} is retained and is no rider's number", refusal.place),

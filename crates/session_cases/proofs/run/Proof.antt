@@ -18,61 +18,61 @@ back : {X : Type 0} (n : ℕ) (part row : List X) → n ≤ length row → lengt
 back n part row h e = let l = e ∙ length-take-le n row h in simp (length-append, length-drop) (omega arith)
 
 abbrev first : tie.After-run → tie.Start
-first c = c .before .before .before .before .before .before .before .before .before .before .before .before .before .before .before
+first c = c .before .before .before .before .before .before .before .before .before .before .before .before .before .before .before .before .before .before .before
 
 array-borrow-prefix-anchored : tie.Need-array-borrow-prefix-anchored
 array-borrow-prefix-anchored c = search needs
 
 slice-aggregate-run : tie.Need-slice-aggregate-run
-slice-aggregate-run c = lent _ _ (c .before .before .before .before .before .before .pre .0)
+slice-aggregate-run c = lent _ _ (c .before .before .before .before .before .before .before .before .before .before .pre .0)
 
 array-borrow-prefix-levels : tie.Need-array-borrow-prefix-levels
 array-borrow-prefix-levels c = search needs
 
 slice-aggregate-run-2 : tie.Need-slice-aggregate-run-2
-slice-aggregate-run-2 c = lent _ _ (c .before .before .before .before .before .before .before .pre .0)
+slice-aggregate-run-2 c = lent _ _ (c .before .before .before .before .before .before .before .before .before .before .before .pre .0)
 
 array-borrow-prefix-layers : tie.Need-array-borrow-prefix-layers
 array-borrow-prefix-layers c = search needs
 
 slice-aggregate-run-3 : tie.Need-slice-aggregate-run-3
-slice-aggregate-run-3 c = lent _ _ (c .before .before .before .before .before .before .before .before .pre .0)
+slice-aggregate-run-3 c = lent _ _ (c .before .before .before .before .before .before .before .before .before .before .before .before .pre .0)
 
 array-borrow-prefix-components : tie.Need-array-borrow-prefix-components
 array-borrow-prefix-components c = search needs
 
 slice-aggregate-run-4 : tie.Need-slice-aggregate-run-4
-slice-aggregate-run-4 c = lent _ _ (c .before .before .before .before .before .before .before .before .before .pre .0)
+slice-aggregate-run-4 c = lent _ _ (c .before .before .before .before .before .before .before .before .before .before .before .before .before .pre .0)
 
 array-borrow-prefix-yields : tie.Need-array-borrow-prefix-yields
 array-borrow-prefix-yields c = search needs
 
 slice-aggregate-run-5 : tie.Need-slice-aggregate-run-5
-slice-aggregate-run-5 c = lent _ _ (c .before .before .before .before .before .before .before .before .before .before .pre .0)
+slice-aggregate-run-5 c = lent _ _ (c .before .before .before .before .before .before .before .before .before .before .before .before .before .before .pre .0)
 
 array-borrow-prefix-stamps : tie.Need-array-borrow-prefix-stamps
 array-borrow-prefix-stamps c = search needs
 
 slice-aggregate-run-6 : tie.Need-slice-aggregate-run-6
-slice-aggregate-run-6 c = lent _ _ (c .before .before .before .before .before .before .before .before .before .before .before .pre .0)
+slice-aggregate-run-6 c = lent _ _ (c .before .before .before .before .before .before .before .before .before .before .before .before .before .before .before .pre .0)
 
 array-borrow-prefix-status : tie.Need-array-borrow-prefix-status
 array-borrow-prefix-status c = search needs
 
 slice-aggregate-run-7 : tie.Need-slice-aggregate-run-7
-slice-aggregate-run-7 c = lent _ _ (c .before .before .before .before .before .before .before .before .before .before .before .before .pre .1)
+slice-aggregate-run-7 c = lent _ _ (c .before .before .before .before .before .before .before .before .before .before .before .before .before .before .before .before .pre .1)
 
 array-borrow-prefix-lifted : tie.Need-array-borrow-prefix-lifted
 array-borrow-prefix-lifted c = search needs
 
 slice-aggregate-run-8 : tie.Need-slice-aggregate-run-8
-slice-aggregate-run-8 c = lent _ _ (c .before .before .before .before .before .before .before .before .before .before .before .before .before .pre .1)
+slice-aggregate-run-8 c = lent _ _ (c .before .before .before .before .before .before .before .before .before .before .before .before .before .before .before .before .before .pre .1)
 
 array-borrow-prefix-redone : tie.Need-array-borrow-prefix-redone
 array-borrow-prefix-redone c = search needs
 
 slice-aggregate-run-9 : tie.Need-slice-aggregate-run-9
-slice-aggregate-run-9 c = lent _ _ (c .before .before .before .before .before .before .before .before .before .before .before .before .before .before .pre .1)
+slice-aggregate-run-9 c = lent _ _ (c .before .before .before .before .before .before .before .before .before .before .before .before .before .before .before .before .before .before .pre .1)
 
 run-requires : tie.Need-run-requires
 run-requires c κs = search needs
@@ -85,34 +85,39 @@ slice-aggregate-rows c = search needs
 
 slice-aggregate-rows-2 : tie.Need-slice-aggregate-rows-2
 slice-aggregate-rows-2 c =
-    let at = c .before .before .before .before .before .before .before .before .before .before .before .before in
-    back _ (at .run .last .1 .1 .1 .1 .1 .1 .1 .1 .1 .1 .0) _ (first at .pre .1) (at .run .kept .1 .1 .1 .1 .1 .1 .1 .1 .1 .1 .0)
+    let at = c .before .before .before .before .before .before .before .before .before .before .before .before .before .before .before .before in
+    back _ (at .run .last .1 .1 .1 .1 .1 .1 .1 .1 .1 .1 .1 .1 .0) _ (first at .pre .1) (at .run .kept .1 .1 .1 .1 .1 .1 .1 .1 .1 .1 .1 .1 .0)
 
 slice-aggregate-rows-3 : tie.Need-slice-aggregate-rows-3
 slice-aggregate-rows-3 c =
-    let at = c .before .before .before .before .before .before .before .before .before .before .before .before .before in
-    back _ (at .run .last .1 .1 .1 .1 .1 .1 .1 .1 .1 .1 .1 .0) _ (first at .pre .1) (at .run .kept .1 .1 .1 .1 .1 .1 .1 .1 .1 .1 .1 .0)
+    let at = c .before .before .before .before .before .before .before .before .before .before .before .before .before .before .before .before .before in
+    back _ (at .run .last .1 .1 .1 .1 .1 .1 .1 .1 .1 .1 .1 .1 .1 .0) _ (first at .pre .1) (at .run .kept .1 .1 .1 .1 .1 .1 .1 .1 .1 .1 .1 .1 .1 .0)
+
+slice-aggregate-rows-4 : tie.Need-slice-aggregate-rows-4
+slice-aggregate-rows-4 c =
+    let at = c .before .before .before .before .before .before .before .before .before .before .before .before .before .before .before .before .before .before in
+    back _ (at .run .last .1 .1 .1 .1 .1 .1 .1 .1 .1 .1 .1 .1 .1 .1 .0) _ (first at .pre .1) (at .run .kept .1 .1 .1 .1 .1 .1 .1 .1 .1 .1 .1 .1 .1 .1 .0)
 
 rows-requires : tie.Need-rows-requires
 rows-requires c κs = search needs
 
-slice-aggregate-rows-4 : tie.Need-slice-aggregate-rows-4
-slice-aggregate-rows-4 c = search needs
-
 slice-aggregate-rows-5 : tie.Need-slice-aggregate-rows-5
-slice-aggregate-rows-5 c =
-    let at = c .before .before .before .before .before .before .before .before .before .before .before .before .before .before .before .before in
-    back _ (at .run .last .1 .1 .1 .1 .1 .1 .1 .1 .1 .1 .1 .1 .0) _ (first at .pre .1) (at .run .kept .1 .1 .1 .1 .1 .1 .1 .1 .1 .1 .1 .1 .0)
+slice-aggregate-rows-5 c = search needs
 
 slice-aggregate-rows-6 : tie.Need-slice-aggregate-rows-6
 slice-aggregate-rows-6 c =
-    let at = c .before .before .before .before .before .before .before .before .before .before .before .before .before .before .before .before .before in
-    back _ (at .run .last .1 .1 .1 .1 .1 .1 .1 .1 .1 .0) _ (first at .pre .0) (at .run .kept .1 .1 .1 .1 .1 .1 .1 .1 .1 .0)
+    let at = c .before .before .before .before .before .before .before .before .before .before .before .before .before .before .before .before .before .before .before .before .before in
+    back _ (at .run .last .1 .1 .1 .1 .1 .1 .1 .1 .1 .1 .1 .0) _ (first at .pre .0) (at .run .kept .1 .1 .1 .1 .1 .1 .1 .1 .1 .1 .1 .0)
 
 slice-aggregate-rows-7 : tie.Need-slice-aggregate-rows-7
 slice-aggregate-rows-7 c =
-    let at = c .before .before .before .before .before .before .before .before .before .before .before .before .before .before .before .before .before .before in
-    back _ (at .run .last .1 .1 .1 .1 .1 .0) _ (first at .pre .0) (at .run .kept .1 .1 .1 .1 .1 .0)
+    let at = c .before .before .before .before .before .before .before .before .before .before .before .before .before .before .before .before .before .before .before .before .before .before in
+    back _ (at .run .last .1 .1 .1 .1 .1 .1 .1 .0) _ (first at .pre .0) (at .run .kept .1 .1 .1 .1 .1 .1 .1 .0)
+
+slice-aggregate-rows-8 : tie.Need-slice-aggregate-rows-8
+slice-aggregate-rows-8 c =
+    let at = c .before .before .before .before .before .before .before .before .before .before .before .before .before .before .before .before .before .before .before .before .before .before .before in
+    back _ (at .run .last .1 .1 .1 .1 .1 .1 .1 .1 .0) _ (first at .pre .0) (at .run .kept .1 .1 .1 .1 .1 .1 .1 .1 .0)
 
 rows-requires-2 : tie.Need-rows-requires-2
 rows-requires-2 c κs = search needs
@@ -122,30 +127,25 @@ slice-aggregate-row c = search needs
 
 slice-aggregate-row-2 : tie.Need-slice-aggregate-row-2
 slice-aggregate-row-2 c =
-    let at = c .before .before .before .before .before .before .before .before .before .before .before .before .before .before .before .before .before .before .before .before .before in
-    back _ (at .run .last .1 .1 .1 .1 .1 .1 .0) _ (first at .pre .0) (at .run .kept .1 .1 .1 .1 .1 .1 .0)
+    let at = c .before .before .before .before .before .before .before .before .before .before .before .before .before .before .before .before .before .before .before .before .before .before .before .before .before .before in
+    back _ (at .run .last .1 .1 .1 .1 .1 .1 .1 .1 .1 .0) _ (first at .pre .0) (at .run .kept .1 .1 .1 .1 .1 .1 .1 .1 .1 .0)
 
 row-requires : tie.Need-row-requires
 row-requires c κs = search needs
 
-slice-aggregate-row-3 : tie.Need-slice-aggregate-row-3
-slice-aggregate-row-3 c = search needs
-
-slice-aggregate-row-4 : tie.Need-slice-aggregate-row-4
-slice-aggregate-row-4 c =
-    let at = c .before .before .before .before .before .before .before .before .before .before .before .before .before .before .before .before .before .before .before .before .before .before .before .before in
-    back _ (at .run .last .1 .1 .1 .1 .1 .1 .1 .0) _ (first at .pre .0) (at .run .kept .1 .1 .1 .1 .1 .1 .1 .0)
-
-row-requires-2 : tie.Need-row-requires-2
-row-requires-2 c κs = search needs
-
 slice-aggregate-print-yields : tie.Need-slice-aggregate-print-yields
 slice-aggregate-print-yields c =
-    let at = c .before .before .before .before .before .before .before .before .before .before .before .before .before .before .before .before .before .before .before .before .before .before .before .before .before .before in
-    back _ (at .run .last .1 .1 .1 .1 .1 .1 .1 .1 .0) _ (first at .pre .0) (at .run .kept .1 .1 .1 .1 .1 .1 .1 .1 .0)
+    let at = c .before .before .before .before .before .before .before .before .before .before .before .before .before .before .before .before .before .before .before .before .before .before .before .before .before .before .before .before in
+    back _ (at .run .last .1 .1 .1 .1 .1 .1 .1 .1 .1 .1 .0) _ (first at .pre .0) (at .run .kept .1 .1 .1 .1 .1 .1 .1 .1 .1 .1 .0)
 
 print-yields-requires : tie.Need-print-yields-requires
 print-yields-requires c κs = search needs
+
+same-length : tie.Need-same-length
+same-length c = search needs
+
+same-length-2 : tie.Need-same-length-2
+same-length-2 c = search needs
 
 returns : tie.Need-returns
 returns c = search needs
@@ -177,18 +177,18 @@ run-spec =
     slice-aggregate-rows
     slice-aggregate-rows-2
     slice-aggregate-rows-3
-    rows-requires
     slice-aggregate-rows-4
+    rows-requires
     slice-aggregate-rows-5
     slice-aggregate-rows-6
     slice-aggregate-rows-7
+    slice-aggregate-rows-8
     rows-requires-2
     slice-aggregate-row
     slice-aggregate-row-2
     row-requires
-    slice-aggregate-row-3
-    slice-aggregate-row-4
-    row-requires-2
     slice-aggregate-print-yields
     print-yields-requires
+    same-length
+    same-length-2
     returns)

@@ -7,6 +7,8 @@ use lib.ListN.{set}
 use lib.Dec.{T}
 use Rattle.pool.specs.Input.{anchoredBy, Admitted}
 use Rattle.pool.proofs.Laws.{byte-free}
+use Rattle.stale.proofs.Events.{anchor-known}
+use borrow.Author.Needs.{needs}
 use Rattle.step.proofs.Steps.{admitted-set, turned, redone-le, redone-named}
 use Rattle.step.proofs.accept.Statement.{statement}
 use Rattle.step.proofs.accept.Tie as tie
@@ -16,7 +18,7 @@ abbrev marked : tie.After-redo → tie.After-mark-stale
 marked c = c .before .before .before .before .before .before .before
 
 abbrev refreshed : tie.After-mark-stale → tie.After-refresh
-refreshed c = c .before .before
+refreshed c = c .before .before .before
 
 abbrev start : tie.After-refresh → tie.Start
 start c = c .before .before .before .before .before .before
@@ -39,13 +41,13 @@ refresh-requires : tie.Need-refresh-requires
 refresh-requires c κs = admits (c .before .before .before .before .before)
 
 mark-stale-requires : tie.Need-mark-stale-requires
-mark-stale-requires c κs = start (c .before) .pre .0 .admitted .table
+mark-stale-requires c κs = (start (c .before .before) .pre .0 .admitted .table, (search needs, search needs))
 
 mul-lifted : tie.Need-mul-lifted
-mul-lifted c = omega (arith, inside (c .before .before .before .before .before .before .before .before .before .before))
+mul-lifted c = omega (arith, inside (c .before .before .before .before .before .before .before .before .before .before .before))
 
 array-read-lifted : tie.Need-array-read-lifted
-array-read-lifted c = inside (c .before .before .before .before .before .before .before .before .before .before)
+array-read-lifted c = inside (c .before .before .before .before .before .before .before .before .before .before .before)
 
 redo-requires : tie.Need-redo-requires
 redo-requires c κs =
@@ -65,15 +67,15 @@ mul-stamp c = omega (arith, inside (start (refreshed (marked c))))
 array-write-stamp : tie.Need-array-write-stamp
 array-write-stamp c = inside (start (refreshed (marked c)))
 
-cast-t22 : tie.Need-cast-t22
-cast-t22 c = omega (arith, start (refreshed (marked c)) .pre .0 .admitted .table .small, redone-le (c .redo .ensures))
+cast-t24 : tie.Need-cast-t24
+cast-t24 c = omega (arith, start (refreshed (marked c)) .pre .0 .admitted .table .small, redone-le (c .redo .ensures))
 
 returns : tie.Need-returns
 returns c =
     let refreshed = refreshed (marked c) in
     let start = start refreshed in
     let columns = refreshed .refresh .ensures in
-    let found = marked c .mark-stale .ensures _ _ (start .pre .0 .columns) columns in
+    let found = marked c .mark-stale .ensures _ _ _ _ (anchor-known (start .pre .0 .admitted .table) (start .pre .0 .columns) columns) in
     turned (start .pre .0) (start .args .x) (start .pre .1 .0) (free start) (redone-named (c .redo .ensures) (λ v h. sym (found v h))) (admits start) columns
 
 pub accept-spec : {M : Type 1} → statement M
@@ -90,5 +92,5 @@ accept-spec =
     array-write-followers
     mul-stamp
     array-write-stamp
-    cast-t22
+    cast-t24
     returns)

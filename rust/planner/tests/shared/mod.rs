@@ -2,6 +2,8 @@
 #![allow(dead_code)]
 
 pub mod cases;
+pub mod sessions;
+pub mod steps;
 
 use planner::{Input, Refusal};
 use pools::Pool;
@@ -27,6 +29,12 @@ pub fn small_pools(most: usize) -> BTreeSet<Pool> {
     let pools: BTreeSet<Pool> = (0..=most).flat_map(Pool::all).collect();
     assert_eq!(pools.len(), (0..=most).map(|n| 1 << (n * (n + 1) / 2)).sum());
     pools
+}
+
+/// The same, those of one table together.
+pub fn small_pools_by_table(most: usize) -> Vec<Vec<Pool>> {
+    let pools: Vec<Pool> = small_pools(most).into_iter().collect();
+    pools.chunk_by(|a, b| a.starts == b.starts && a.links == b.links).map(<[Pool]>::to_vec).collect()
 }
 
 /// A star of which all but the middle, 0, are anchored: with a level of 1,023 and a bare level of 1, 0 has the least net yield there is.

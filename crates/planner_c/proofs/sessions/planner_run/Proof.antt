@@ -8,7 +8,7 @@ use Rattle.planner_c.proofs.sessions.planner_run.Tie as tie
 
 -- the call, seen from the end
 abbrev called : tie.After-of-ran → tie.After-run
-called c = c .before .before .before .before .before .before .before .before .before .before .before .before .before .before .before .before .before .before
+called c = c .before .before .before .before .before .before .before .before .before .before .before .before .before .before .before .before .before .before .before .before .before .before
 
 run-requires : tie.Need-run-requires
 run-requires c κs = search needs
@@ -17,10 +17,10 @@ of-ran-requires : tie.Need-of-ran-requires
 of-ran-requires c κs = search needs
 
 same-length : tie.Need-same-length
-same-length c = called c .run .kept .1 .1 .1 .1 .0
+same-length c = called c .run .kept .0
 
 same-length-2 : tie.Need-same-length-2
-same-length-2 c = called c .run .kept .1 .1 .1 .1 .1 .0
+same-length-2 c = called c .run .kept .1 .0
 
 same-length-3 : tie.Need-same-length-3
 same-length-3 c = called c .run .kept .1 .1 .1 .1 .1 .1 .0
@@ -43,11 +43,17 @@ same-length-8 c = called c .run .kept .1 .1 .1 .1 .1 .1 .1 .1 .1 .1 .1 .0
 same-length-9 : tie.Need-same-length-9
 same-length-9 c = called c .run .kept .1 .1 .1 .1 .1 .1 .1 .1 .1 .1 .1 .1 .0
 
+same-length-10 : tie.Need-same-length-10
+same-length-10 c = called c .run .kept .1 .1 .1 .1 .1 .1 .1 .1 .1 .1 .1 .1 .1 .0
+
+same-length-11 : tie.Need-same-length-11
+same-length-11 c = called c .run .kept .1 .1 .1 .1 .1 .1 .1 .1 .1 .1 .1 .1 .1 .1 .0
+
 returns : tie.Need-returns
 returns c =
     let run = called c .run .ensures in
     let answered = c .of-ran .ensures ∙ ap ranAs (run .0 .0) ∙ answer-as ranAs _ _ _ in
-    ((answered, run .0 .1), λ e. run .1 (run .0 .0 ∙ cleared _ _ (run-numbered _ _ _ _ _ (sym (ap (λ r. r .number) answered) ∙ e))))
+    ((answered, run .0 .1), λ e. run .1 (run .0 .0 ∙ cleared _ _ (run-numbered _ _ _ _ _ _ (sym (ap (λ r. r .number) answered) ∙ e))))
 
 pub planner-run-spec : {M : Type 1} → statement M
 planner-run-spec =
@@ -64,4 +70,6 @@ planner-run-spec =
     same-length-7
     same-length-8
     same-length-9
+    same-length-10
+    same-length-11
     returns)

@@ -1,38 +1,44 @@
 -- `run::run` meets its contract: demand 3 for every session that is not refused. Assumes nothing.
-use mathlib.Core.Path.{_≡_, sym, _∙_}
+use mathlib.Core.Path.{_≡_, refl, sym, _∙_}
 use Prim.Native.Nat.{ℕ}
 use native.Mathlib.Omega.{arith}
+use borrow.Author.Needs.{needs}
 use Rattle.table.specs.declared.Guard.the-variants.{Passed}
 use Rattle.table.proofs.Guards.{handed, cleared}
-use Rattle.session.specs.Run.{Slices, slices, runOf}
-use Rattle.session.proofs.Serving.{run-ready}
+use Rattle.session.specs.Run.{Lists, lists, Slices, slices, runOf}
+use Rattle.session.proofs.Runs.{run-sound}
 use Rattle.session.proofs.Claims.{session-claim}
-use borrow.Author.Needs.{needs}
 use Rattle.session.proofs.run.run.Statement.{statement}
 use Rattle.session.proofs.run.run.Tie as tie
 
--- the entry, seen from the answer, and the slices lent
+-- the entry, seen from the answer; the events and the slices lent
 abbrev start : tie.After-enum-told → tie.Start
-start c = c .before .before .before .before .before .before .before .before .before .before .before .before .before .before .before .before .before
+start c = c .before .before .before .before .before .before .before .before .before .before .before .before .before .before .before .before .before .before .before .before .before .before
+
+abbrev events : tie.Start → Lists
+events c = let args = c .args in lists (args .kinds .now) (args .firsts .now) (args .seconds .now)
 
 abbrev lent : tie.Start → Slices
 lent c =
     let args = c .args in
-    slices (args .anchored .now) (args .levels .now) (args .layers .now) (args .components .now) (args .yields .now) (args .stamps .now) (args .status .now) (args .lifted .now) (args .redone .now)
+    slices (args .starts .now) (args .links .now) (args .anchored .now) (args .levels .now) (args .layers .now) (args .components .now) (args .yields .now) (args .stamps .now) (args .status .now) (args .lifted .now) (args .redone .now)
 
 -- the answer is that nothing is refused
-told : (c : tie.After-enum-told) → let args = start c .args in runOf (args .starts .now) (args .links .now) (args .given .now) (args .requests .now) (lent (start c)) ≡ Passed
+told : (c : tie.After-enum-told) → runOf (start c .args .given .now) (events (start c)) (lent (start c)) ≡ Passed
 told c = sym (c .before .before .admit .ensures) ∙ c .enum-told .given .1
 
 -- the call, seen from the end
-abbrev called : tie.After-slice-known16 → tie.After-write
-called c = c .before .before .before .before .before .before .before .before .before .before .before .before .before .before .before .before .before
+abbrev called : tie.After-slice-known20 → tie.After-write
+called c = c .before .before .before .before .before .before .before .before .before .before .before .before .before .before .before .before .before .before .before .before .before
 
 slice-aggregate-admit : tie.Need-slice-aggregate-admit
 slice-aggregate-admit c = search needs
 
 slice-aggregate-admit-2 : tie.Need-slice-aggregate-admit-2
 slice-aggregate-admit-2 c = search needs
+
+slice-aggregate-admit-3 : tie.Need-slice-aggregate-admit-3
+slice-aggregate-admit-3 c = search needs
 
 admit-requires : tie.Need-admit-requires
 admit-requires c κs = search needs
@@ -44,47 +50,57 @@ enum-told : tie.Need-enum-told
 enum-told c = search needs
 
 write-requires : tie.Need-write-requires
-write-requires c κs =
-    let told-at = c .before .before .before .before .before .before .before .before .before in
-    let args = start told-at .args in
-    run-ready (args .starts .now) (args .links .now) (args .given .now) (args .requests .now) (lent (start told-at)) (told told-at)
+write-requires c κs = let told-at = c .before .before .before .before .before .before .before .before .before .before .before in run-sound _ _ _ (events (start told-at)) _ (told told-at)
+
+same-length : tie.Need-same-length
+same-length c = search needs
+
+same-length-2 : tie.Need-same-length-2
+same-length-2 c = search needs
 
 returns : tie.Need-returns
 returns c =
     let refused = sym (c .before .before .before .admit .ensures) ∙ c .before .admitted .given .1 in
     ((sym (handed _ _ refused), sym (handed _ _ refused)), λ e. let z : _≡_ {A = ℕ} 0 1 = cc in absurd (omega arith))
 
-same-length : tie.Need-same-length
-same-length c = called c .write .kept .1 .1 .1 .1 .0
-
-same-length-2 : tie.Need-same-length-2
-same-length-2 c = called c .write .kept .1 .1 .1 .1 .1 .0
-
 same-length-3 : tie.Need-same-length-3
-same-length-3 c = called c .write .kept .1 .1 .1 .1 .1 .1 .0
+same-length-3 c = called c .write .kept .0
 
 same-length-4 : tie.Need-same-length-4
-same-length-4 c = called c .write .kept .1 .1 .1 .1 .1 .1 .1 .0
+same-length-4 c = called c .write .kept .1 .0
 
 same-length-5 : tie.Need-same-length-5
-same-length-5 c = called c .write .kept .1 .1 .1 .1 .1 .1 .1 .1 .0
+same-length-5 c = called c .write .kept .1 .1 .1 .1 .1 .1 .0
 
 same-length-6 : tie.Need-same-length-6
-same-length-6 c = called c .write .kept .1 .1 .1 .1 .1 .1 .1 .1 .1 .0
+same-length-6 c = called c .write .kept .1 .1 .1 .1 .1 .1 .1 .0
 
 same-length-7 : tie.Need-same-length-7
-same-length-7 c = called c .write .kept .1 .1 .1 .1 .1 .1 .1 .1 .1 .1 .0
+same-length-7 c = called c .write .kept .1 .1 .1 .1 .1 .1 .1 .1 .0
 
 same-length-8 : tie.Need-same-length-8
-same-length-8 c = called c .write .kept .1 .1 .1 .1 .1 .1 .1 .1 .1 .1 .1 .0
+same-length-8 c = called c .write .kept .1 .1 .1 .1 .1 .1 .1 .1 .1 .0
 
 same-length-9 : tie.Need-same-length-9
-same-length-9 c = called c .write .kept .1 .1 .1 .1 .1 .1 .1 .1 .1 .1 .1 .1 .0
+same-length-9 c = called c .write .kept .1 .1 .1 .1 .1 .1 .1 .1 .1 .1 .0
+
+same-length-10 : tie.Need-same-length-10
+same-length-10 c = called c .write .kept .1 .1 .1 .1 .1 .1 .1 .1 .1 .1 .1 .0
+
+same-length-11 : tie.Need-same-length-11
+same-length-11 c = called c .write .kept .1 .1 .1 .1 .1 .1 .1 .1 .1 .1 .1 .1 .0
+
+same-length-12 : tie.Need-same-length-12
+same-length-12 c = called c .write .kept .1 .1 .1 .1 .1 .1 .1 .1 .1 .1 .1 .1 .1 .0
+
+same-length-13 : tie.Need-same-length-13
+same-length-13 c = called c .write .kept .1 .1 .1 .1 .1 .1 .1 .1 .1 .1 .1 .1 .1 .1 .0
 
 returns-2 : tie.Need-returns-2
 returns-2 c =
-    let passed = told (called c .before .before .before .before .before .before .before .before .before .before) in
-    ((sym (cleared _ _ passed), called c .write .ensures ∙ sym (cleared _ _ passed)), λ e. session-claim _ _ _ _ _ passed)
+    let told-at = called c .before .before .before .before .before .before .before .before .before .before .before .before in
+    let passed = told told-at in
+    ((sym (cleared _ _ passed), called c .write .ensures ∙ sym (cleared _ _ passed)), λ e. session-claim _ _ _ _ (lent (start told-at)) refl refl passed)
 
 pub run-spec : {M : Type 1} → statement M
 run-spec =
@@ -92,13 +108,14 @@ run-spec =
     (tie.spec
     slice-aggregate-admit
     slice-aggregate-admit-2
+    slice-aggregate-admit-3
     admit-requires
     enum-known-admitted
     enum-told
     write-requires
-    returns
     same-length
     same-length-2
+    returns
     same-length-3
     same-length-4
     same-length-5
@@ -106,4 +123,8 @@ run-spec =
     same-length-7
     same-length-8
     same-length-9
+    same-length-10
+    same-length-11
+    same-length-12
+    same-length-13
     returns-2)

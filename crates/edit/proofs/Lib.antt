@@ -1,0 +1,10 @@
+pub mod Parts
+pub mod Put
+pub mod Take
+pub mod Shifts
+pub mod Places
+pub mod Canonical
+pub mod Edges
+pub mod Statuses
+pub mod Checked
+pub mod After
