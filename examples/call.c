@@ -15,7 +15,8 @@ static const uint8_t retained[] = {1, 0, 0, 0};
 
 static void tell(const char *call, planner_answer answer)
 {
-    printf("%s: %" PRIu64 " %" PRIu64 " %" PRIu64 "\n", call, answer.number, answer.first, answer.second);
+    printf("%s: %" PRIu64 " %" PRIu64 " %" PRIu64, call, answer.number, answer.first, answer.second);
+    printf(", edges %" PRIu64 ", max_degree %" PRIu64 "\n", answer.edges, answer.max_degree);
 }
 
 static void numbers(const char *name, const uint16_t *list, size_t count)
@@ -71,21 +72,22 @@ static void sheet(void)
 
 /*
  * A week of events, rider 0 being retained. 3 is retained: 1 and 2 climb a level. 0 and 2 become partners, 1 and 2 part: 1 falls again.
- * Parting them once more is refused, and so is retaining 9, who is no rider.
+ * Parting them once more is refused, and so is retaining 9, who is no rider. 0 and 3 become partners too: 0 has three now, and there are
+ * four pairs, where the answer has those of the start, three and two.
  */
 static void session(void)
 {
-    static const uint16_t kinds[] = {0, 1, 2, 2, 0}, firsts[] = {3, 0, 1, 2, 9}, seconds[] = {0, 2, 2, 1, 0};
+    static const uint16_t kinds[] = {0, 1, 2, 2, 0, 1}, firsts[] = {3, 0, 1, 2, 9, 3}, seconds[] = {0, 2, 2, 1, 0, 0};
     static uint16_t lent_links[16384];
     uint16_t lent_starts[5];
     uint8_t anchored[4] = {0};
     uint16_t levels[4] = {0}, layers[4] = {0}, components[4] = {0}, stamps[4] = {0};
     int16_t yields[4] = {0};
-    uint16_t status[5] = {0}, lifted[5] = {0}, redone[5] = {0};
+    uint16_t status[6] = {0}, lifted[6] = {0}, redone[6] = {0};
     memcpy(lent_starts, starts, sizeof starts);
     memcpy(lent_links, links, sizeof links);
-    tell("run", planner_run(lent_starts, 5, lent_links, 16384, retained, 4, kinds, 5, firsts, 5, seconds, 5, anchored, 4, levels, 4,
-                            layers, 4, components, 4, yields, 4, stamps, 4, status, 5, lifted, 5, redone, 5));
+    tell("run", planner_run(lent_starts, 5, lent_links, 16384, retained, 4, kinds, 6, firsts, 6, seconds, 6, anchored, 4, levels, 4,
+                            layers, 4, components, 4, yields, 4, stamps, 4, status, 6, lifted, 6, redone, 6));
     numbers("starts", lent_starts, 5);
     numbers("links", lent_links, lent_starts[4]);
     bytes("anchored", anchored, 4);
@@ -94,9 +96,9 @@ static void session(void)
     numbers("components", components, 4);
     signed_numbers("yields", yields, 4);
     numbers("stamps", stamps, 4);
-    numbers("status", status, 5);
-    numbers("lifted", lifted, 5);
-    numbers("redone", redone, 5);
+    numbers("status", status, 6);
+    numbers("lifted", lifted, 6);
+    numbers("redone", redone, 6);
 }
 
 /* A text of two riders and one round, with room enough for its sheet and with none. */

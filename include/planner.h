@@ -26,6 +26,7 @@
  *
  *   vertex (rider)       a number from 0 to n - 1; n is at most 1,024
  *   neighbors (partners) the vertices that a vertex has an edge (pair) with: mutual, and never the vertex itself
+ *   degree               of a vertex: how many neighbors it has
  *   anchored (retained)  a byte for each vertex: 1 if it is anchored, 0 if not
  *   core k               the largest set of vertices in which each one that is not anchored has at least k neighbors in the set; an
  *                        anchored vertex is always in it
@@ -84,13 +85,17 @@ extern "C" {
 #endif
 
 /*
- * Accepted: number is 0, and first and second are the values that the call states, 0 where it states none.
- * Refused: number is the refusal's number, first its place, second 0.
+ * Accepted: number is 0. edges is how many edges the table has, and max_degree the greatest degree of a vertex, 0 if there are no vertices:
+ * every call that answers so states these two, of the table as it was handed in. first and second are the values that the call states
+ * beside them, 0 where it states no other.
+ * Refused: number is the refusal's number, first its place, second, edges and max_degree 0.
  */
 typedef struct planner_answer {
     uint64_t number;
     uint64_t first;
     uint64_t second;
+    uint64_t edges;
+    uint64_t max_degree;
 } planner_answer;
 
 /*
@@ -109,7 +114,7 @@ typedef struct planner_sheeted {
  *   starts  n + 1 numbers, the first 0: the neighbors of vertex v are links[starts[v]] up to, not including, links[starts[v + 1]]
  *   links   at most 16,384 numbers: the neighbors of all vertices, list after list, each list strictly ascending, each edge in two lists
  *
- * Accepted: states no value.
+ * Accepted: states edges and max_degree, and no other value.
  * Refused: 1, 2, 3, 4, 5, 6, 7, 8.
  */
 planner_answer planner_check(const uint16_t *starts, size_t starts_len, const uint16_t *links, size_t links_len);
@@ -123,7 +128,7 @@ planner_answer planner_check(const uint16_t *starts, size_t starts_len, const ui
  *   layers         filled, n numbers: the layer of each vertex
  *   components     filled, n numbers: the number of each vertex's component
  *
- * Accepted: states no value.
+ * Accepted: states no other value.
  * Refused: 1 to 8, 9, 10, 12.
  */
 planner_answer planner_work(
@@ -155,7 +160,7 @@ planner_answer planner_list_components(
  *   levels         n numbers: the sheet's levels
  *   layers         n numbers: the sheet's layers
  *
- * Accepted: states no value.
+ * Accepted: states no other value.
  * Refused: 1 to 8, 9, 10, 13, 14, 19, 20, 21.
  */
 planner_answer planner_check_sheet(
@@ -189,7 +194,7 @@ planner_answer planner_followers(
  *   x               a vertex, anchored or not
  *   marks           filled, n bytes: 1 for a vertex that falls, 0 for all others and for x
  *
- * Accepted: states no value.
+ * Accepted: states no other value.
  * Refused: 1 to 8, 9, 10, 12, 13, 14, 19, 20, 21, 15.
  */
 planner_answer planner_collapse(
@@ -231,7 +236,7 @@ planner_answer planner_collapse(
  *   redone         filled, a number for each event: of how many vertices the net yield was worked out anew after it, a newly anchored one
  *                  not counted; 0 if its status is not 0
  *
- * Accepted: states no value.
+ * Accepted: states no other value; edges and max_degree are those of the table before the events.
  * Refused: 1, 2, 12 (links), 3, 4, 5, 6, 7, 8, 9, 10, 11, 12 (the slices from anchored on); the bytes of 9 and 10 are given, the links of 4
  * to 8 are those up to the last start.
  */

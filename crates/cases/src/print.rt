@@ -1,6 +1,7 @@
 // Lines on standard output, each behind the name of its case and a title.
 use libc::STDOUT_FILENO;
 use table::Refusal;
+use table::size::Size;
 
 pub fn text(bytes: &[u8]) {
     io::write_all(STDOUT_FILENO, bytes);
@@ -30,11 +31,21 @@ pub fn refusal(name: &[u8], title: &[u8], refused: Refusal) {
     text(b"\n");
 }
 
-// `NAME TITLE sound`.
-pub fn sound(name: &[u8], title: &[u8]) {
+// ` edges NUMBER max degree NUMBER`, which ends a line.
+pub fn end_size(size: Size) {
+    text(b" edges");
+    number(size.edges);
+    text(b" max degree");
+    number(size.max_degree);
+    text(b"\n");
+}
+
+// `NAME TITLE sound`, and the size.
+pub fn sound(name: &[u8], title: &[u8], size: Size) {
     text(name);
     text(title);
-    text(b" sound\n");
+    text(b" sound");
+    end_size(size);
 }
 
 // `NAME TITLE NUMBER NUMBER`; of a longer row the first eight numbers.

@@ -5,6 +5,7 @@ ghost use lib.ListN.{length};
 ghost use Rattle.finite.specs.Moments.{old, final};
 ghost use Rattle.finite.specs.Count.{tabulate};
 ghost use Rattle.table.specs.Table.{vertices};
+ghost use Rattle.table.specs.Size.{sizeOf};
 ghost use Rattle.table.specs.Guard.{answer, held};
 ghost use Rattle.marking.specs.Marking.{markingOf};
 ghost use Rattle.pool.specs.Sheet.{Leveled};
@@ -12,9 +13,9 @@ ghost use Rattle.cascade.specs.Cascade.{fellBy};
 ghost use Rattle.collapse.specs.Answers.{fallMarksOf};
 ghost use Rattle.collapse.specs.declared.Collapsed.the-variants.{Marked, Refused};
 
-// The answer of a collapse: the marks are set, or a refusal.
+// The answer of a collapse: the marks are set, with the size of the table, or a refusal.
 pub enum Collapsed {
-    Marked,
+    Marked(table::size::Size),
     Refused(table::Refusal),
 }
 
@@ -62,15 +63,16 @@ pub fn collapse(
 ) -> Collapsed
     ensures { λ r.
         let guard = markingOf (old starts) (old links) (old anchored) (old levels) (old layers) x (length (old marks)) in
-        ⌜ (r ≡ answer guard Marked Refused)
+        ⌜ (r ≡ answer guard (Marked (sizeOf (old starts) (old links))) Refused)
         × (final marks ≡ held guard (fallMarksOf (old starts) (old links) (old anchored) x) (old marks)) ⌝ }
 {
     let tested = marking::test_marking(starts, links, anchored, levels, layers, x, marks.len());
     match tested {
         table::Guard::Refused(refusal) => Collapsed::Refused(refusal),
         table::Guard::Passed => {
+            let size = table::size::measure(starts, links);
             write_falls(starts, links, anchored, levels, x, marks);
-            Collapsed::Marked
+            Collapsed::Marked(size)
         }
     }
 }

@@ -3,6 +3,7 @@ use mathlib.Core.List.{List, map}
 use Prim.Native.Nat.{ℕ}
 use Rattle.finite.specs.Count.{count, below}
 use Rattle.table.specs.Table.{vertices}
+use Rattle.table.specs.Size.{sizeOf}
 use Rattle.table.specs.Guard.{answer}
 use Rattle.anchored.specs.Core.{level}
 use Rattle.anchored.specs.Component.{heads, componentSize, ranked}
@@ -11,9 +12,9 @@ use Rattle.pool.specs.Lengths.{slicesOf}
 use Rattle.components.specs.declared.Listed.{Listed}
 use Rattle.components.specs.declared.Listed.the-variants.{Count, Refused}
 
--- refused as the working of the sheet is; else how many components there are
+-- refused as the working of the sheet is; else how many components there are, and the size of the table
 unfoldable pub listOf : List ℕ → List ℕ → List ℕ → List ℕ → Listed
-listOf s l a lengths = answer (slicesOf s l a lengths) (Count (count (heads (graphOf s l) (anchoredBy a)) (below (vertices s)))) Refused
+listOf s l a lengths = answer (slicesOf s l a lengths) (Count (count (heads (graphOf s l) (anchoredBy a)) (below (vertices s))) (sizeOf s l)) Refused
 
 module _ (s l a : List ℕ) where
   -- the numbers of the component list

@@ -15,9 +15,9 @@ ghost use Rattle.components.specs.Answers.{listOf, numbersOf, levelsOf, 
 ghost use Rattle.ranking.specs.Ranking.{rankedIn, Low};
 ghost use Rattle.components.specs.Entries.{members, Placed};
 
-// The answer of the list: how many components it has, or a refusal.
+// The answer of the list: how many components it has, with the size of the table, or a refusal.
 pub enum Listed {
-    Count(usize),
+    Count(usize, table::size::Size),
     Refused(table::Refusal),
 }
 
@@ -133,13 +133,10 @@ pub fn list_components(
     );
     match admitted {
         table::Guard::Refused(refusal) => Listed::Refused(refusal),
-        table::Guard::Passed => Listed::Count(write_list(
-            starts,
-            links,
-            anchored,
-            levels,
-            sizes,
-            numbers,
-        )),
+        table::Guard::Passed => {
+            let size = table::size::measure(starts, links);
+            let count = write_list(starts, links, anchored, levels, sizes, numbers);
+            Listed::Count(count, size)
+        }
     }
 }

@@ -10,12 +10,14 @@ use lib.Dec.{ltb, eqb, ltb→lt, nltb→le, eqb→eq}
 use borrow.Author.Tests.{lt-ltb, le-ltb, eq-eqb, ne-eqb, ltb-false, eqb-true, not-false}
 use Rattle.finite.specs.Count.{tabulate}
 use Rattle.finite.specs.Search.{NoneBelow}
-use Rattle.finite.proofs.Tests.{not-or, not-not, split, true-of, false-of, of-false, neqb}
+use Rattle.finite.proofs.Tests.{split, true-of, false-of, neqb}
 use Rattle.finite.proofs.Count.{length-tabulate, tabulate-at}
 use Rattle.table.specs.Table.{vertices, neighbors, wrongEnd, wrongStep, badStart, checkOf, Framed, SoundTable}
+use Rattle.table.specs.Size.{sizeOf}
 use Rattle.table.specs.Guard.{refused}
 use Rattle.table.specs.declared.Guard.the-variants.{Passed}
-use Rattle.table.proofs.Laws.{neighbors-length, went-on, went-past, sound, found-sound}
+use Rattle.table.proofs.Laws.{neighbors-length, went-on, ends, sound, found-sound}
+use Rattle.table.proofs.Edges.{degrees-below, handshake}
 use Rattle.table.proofs.Numbers.{Between, between-next, between-check}
 use Rattle.anchored.specs.Graph.{Graph}
 use Rattle.pool.specs.Input.{graphOf}
@@ -91,14 +93,12 @@ module _ (s l : List ℕ) (passed : checkLent s l ≡ Passed) where
   lent-cut = sym (other-graph (links-sound .framed) l enough read)
 
   first-start : getD s 0 0 ≡ 0
-  unfolding checkOf badStart
-  first-start =
-      let some = went-on (eqb (length s) 0) 1 0 _ (past .2) in
-      let small = went-on (ltb 1024 (vertices s)) 2 0 _ (some .1) in
-      let few = went-on (ltb 16384 (length links)) 3 0 _ (small .1) in
-      let starts = went-past 4 (badStart s links) (length s) _ (few .1) .0 0 (links-sound .framed .some) in
-      let right = not-or (wrongEnd s links 0) (wrongStep s 0) (of-false (badStart s links 0) starts) .1 in
-      eqb→eq (getD s 0 0) 0 (not-not (eqb (getD s 0 0) 0) right)
+  first-start = ends s links (past .2) .0
+
+  -- what stands behind the last start is in nobody's list: twice the edges are the last start
+  pub lent-twice : sizeOf s l .edges + sizeOf s l .edges ≡ lastStart s
+  unfolding sizeOf
+  lent-twice = let t = lent-sound in omega (arith, handshake s l t, degrees-below s l (t .framed) (vertices s) (omega arith), first-start)
 
   abbrev zeroed : List ℕ
   zeroed = tabulate (zeroedAt l (lastStart s)) (length l)

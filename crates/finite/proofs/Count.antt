@@ -423,6 +423,21 @@ unfolding sum count
 sum-bits p [] = refl
 sum-bits p (u ∷ us) = omega (arith, sum-bits p us)
 
+pub sum-add : (f g : ℕ → ℕ) (l : List ℕ) → sum (λ w. f w + g w) l ≡ sum f l + sum g l
+unfolding sum
+sum-add f g [] = refl
+sum-add f g (u ∷ us) = omega (arith, sum-add f g us)
+
+-- pairs counted by their first are as many as counted by their second
+pub sum-swap : (r : ℕ → ℕ → Bool) (l m : List ℕ) → sum (λ u. count (r u) m) l ≡ sum (λ v. count (λ u. r u v) l) m
+unfolding sum count
+sum-swap r [] m = sym (zeros m)
+  where
+    zeros : (m : List ℕ) → sum (λ v. 0) m ≡ 0
+    zeros [] = refl
+    zeros (v ∷ vs) = omega (arith, zeros vs)
+sum-swap r (u ∷ us) m = omega (arith, sum-swap r us m, sum-bits (r u) m, sum-add (λ v. bit (r u v)) (λ v. count (λ w. r w v) us) m)
+
 -- the sum of a number at x, and 0 elsewhere, in a list that has x once
 pub sum-one : (x c : ℕ) (l : List ℕ) → Distinct l → In x l → sum (λ w. cond (eqb x w) c 0) l ≡ c
 unfolding sum

@@ -9,9 +9,9 @@ use native.Mathlib.Numerals.{add-one}
 use native.Mathlib.Omega.{arith}
 use lib.ListN.{length, take, getD}
 use lib.Seq.{take-suc}
-use lib.Dec.{T, leb, ltb, eqb, leb→le, le→leb, nleb→lt, T-not, not-T, eqb→eq, eqb-refl}
+use lib.Dec.{T, leb, ltb, eqb, leb→le, le→leb, ltb→lt, nleb→lt, nltb→le, T-not, not-T, eqb→eq, eqb-refl}
 use Rattle.finite.specs.Count.{bit, below, count, In, Distinct, tabulate}
-use Rattle.finite.specs.Search.{any, all, member, firstFrom, first, largest, NoneBelow, rises, ascending}
+use Rattle.finite.specs.Search.{any, all, member, firstFrom, first, largest, greatestOf, NoneBelow, rises, ascending}
 use Rattle.finite.proofs.Tests.{and-i, and-l, and-r, or-l, or-r, or-e, nand, split, same, true-of, false-of, of-true, of-false, eqb-of, neqb}
 use Rattle.finite.proofs.Ordered.{ordered-of, ordered-distinct}
 use Rattle.finite.proofs.Count.{bit-yes, bit-no, in-at, at-in, in-append, in-below, count-some, count-cong, count-witness, count-strict, count-none, distinct-below}
@@ -365,3 +365,40 @@ any-below-zero p = refl
 pub any-below-more : (p : ℕ → Bool) (i : ℕ) → any p (below (i + 1)) ≡ any p (below i) || p i
 unfolding any below tabulate
 any-below-more p i = rw add-one (any-append p (below i) (i ∷ []) ∙ ap (λ z. any p (below i) || z) (or-false (p i)))
+
+-- ---- the greatest of some values
+
+module _ (f : ℕ → ℕ) where
+  -- one value more is the greatest, or is not
+  greatest-by : (C : ℕ → Type 0) (n : ℕ) → (greatestOf f n < f n → C (f n)) → (f n ≤ greatestOf f n → C (greatestOf f n)) → C (greatestOf f (suc n))
+  unfolding greatestOf
+  greatest-by C n more less = split (ltb (greatestOf f n) (f n))
+      (λ t. rw (true-of (ltb (greatestOf f n) (f n)) t) (more (ltb→lt (greatestOf f n) (f n) t)))
+      (λ t. rw (false-of (ltb (greatestOf f n) (f n)) t) (less (nltb→le (greatestOf f n) (f n) t)))
+
+  -- none is greater
+  pub greatest-bounds : (n i : ℕ) → i < n → f i ≤ greatestOf f n
+  greatest-bounds zero i h = absurd (omega arith)
+  greatest-bounds (suc n) i h = greatest-by (λ m. f i ≤ m) n
+      (λ more. split (eqb i n) (λ t. rw (eqb→eq i n t) (omega arith)) (λ t. let other = neqb i n t in omega (arith, greatest-bounds n i (omega arith))))
+      (λ less. split (eqb i n) (λ t. rw (eqb→eq i n t) less) (λ t. let other = neqb i n t in greatest-bounds n i (omega arith)))
+
+  -- and it is one of them, if there is one
+  pub greatest-one : (n : ℕ) → 0 < n → (i : ℕ) × (i < n) × (f i ≡ greatestOf f n)
+  unfolding greatestOf
+  greatest-one zero h = absurd (omega arith)
+  greatest-one (suc zero) h = (0, omega arith, greatest-by (λ m. f 0 ≡ m) 0 (λ more. refl) (λ less. omega arith))
+  greatest-one (suc (suc n)) h = greatest-by (λ m. (i : ℕ) × (i < suc (suc n)) × (f i ≡ m)) (suc n)
+      (λ more. (suc n, omega arith, refl))
+      (λ less. let r = greatest-one (suc n) (omega arith) in (r .0, omega (arith, r .1), r .2))
+
+  -- a loop over the values: none yet; one more, greater or not
+  pub greatest-zero : greatestOf f 0 ≡ 0
+  unfolding greatestOf
+  greatest-zero = refl
+
+  pub greatest-more : (n : ℕ) → greatestOf f n < f n → greatestOf f (n + 1) ≡ f n
+  greatest-more n h = rw add-one (greatest-by (λ m. m ≡ f n) n (λ more. refl) (λ less. absurd (omega arith)))
+
+  pub greatest-same : (n : ℕ) → f n ≤ greatestOf f n → greatestOf f (n + 1) ≡ greatestOf f n
+  greatest-same n h = rw add-one (greatest-by (λ m. m ≡ greatestOf f n) n (λ more. absurd (omega arith)) (λ less. refl))

@@ -1,4 +1,4 @@
--- Searches: whether some or all numbers of a list pass a test, the lowest index that does, the largest. The laws are in proofs/Search.
+-- Searches: whether some or all numbers of a list pass a test, the lowest index that does, the largest; the greatest value. The laws are in proofs/Search.
 use mathlib.Core.Path.{_≡_}
 use mathlib.Core.Bool.{Bool, true, false, cond, _&&_, _||_}
 use mathlib.Core.List.{List, [], _∷_}
@@ -32,6 +32,11 @@ first p n = firstFrom p n 0
 unfoldable pub largest : (ℕ → Bool) → ℕ → ℕ
 largest p zero = zero
 largest p (suc m) = cond (p (suc m)) (suc m) (largest p m)
+
+-- the greatest of f 0, .., f (n - 1); 0 if there is none
+unfoldable pub greatestOf : (ℕ → ℕ) → ℕ → ℕ
+greatestOf f zero = 0
+greatestOf f (suc n) = cond (ltb (greatestOf f n) (f n)) (f n) (greatestOf f n)
 
 -- no index below i passes: what a search loop has shown at its head
 abbrev pub NoneBelow : (ℕ → Bool) → ℕ → Type 0

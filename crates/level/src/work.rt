@@ -5,6 +5,7 @@ ghost use lib.ListN.{length};
 ghost use Rattle.finite.specs.Moments.{old, final};
 ghost use Rattle.finite.specs.Count.{tabulate};
 ghost use Rattle.table.specs.Table.{vertices};
+ghost use Rattle.table.specs.Size.{sizeOf};
 ghost use Rattle.table.specs.Guard.{answer, held};
 ghost use Rattle.anchored.specs.Core.{level as levelOf, layer as layerOf};
 ghost use Rattle.anchored.specs.Component.{component as componentOf};
@@ -13,9 +14,9 @@ ghost use Rattle.pool.specs.Arrays.{Holds};
 ghost use Rattle.pool.specs.Lengths.{slicesOf};
 ghost use Rattle.level.specs.declared.work.Worked.the-variants.{Done, Refused};
 
-// The answer of the working: the slices are filled, or a refusal.
+// The answer of the working: the slices are filled, with the size of the table, or a refusal.
 pub enum Worked {
-    Done,
+    Done(table::size::Size),
     Refused(table::Refusal),
 }
 
@@ -83,7 +84,7 @@ pub fn work(
         let G = graphOf (old starts) (old links) in
         let A = anchoredBy (old anchored) in
         let guard = slicesOf (old starts) (old links) (old anchored) (map length (old levels ∷ old layers ∷ old components ∷ [])) in
-        ⌜ (r ≡ answer guard Done Refused)
+        ⌜ (r ≡ answer guard (Done (sizeOf (old starts) (old links))) Refused)
         × (final levels ≡ held guard (tabulate (levelOf G A) (G .size)) (old levels))
         × (final layers ≡ held guard (tabulate (layerOf G A) (G .size)) (old layers))
         × (final components ≡ held guard (tabulate (componentOf G A) (G .size)) (old components)) ⌝ }
@@ -97,8 +98,9 @@ pub fn work(
     match admitted {
         table::Guard::Refused(refusal) => Worked::Refused(refusal),
         table::Guard::Passed => {
+            let size = table::size::measure(starts, links);
             write_sheet(starts, links, anchored, levels, layers, components);
-            Worked::Done
+            Worked::Done(size)
         }
     }
 }

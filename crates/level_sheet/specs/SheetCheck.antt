@@ -47,7 +47,7 @@ pub record Accepted (s l a lev lay : List ℕ) : Type 0 where
 
 -- the number of an answer; 0 is acceptance
 abbrev pub numberIn : SheetChecked → ℕ
-numberIn Defined = 0
+numberIn (Defined size) = 0
 numberIn (Refused r) = r .number
 
 -- accepted, or refused with 20 or 21

@@ -8,6 +8,7 @@ ghost use lib.Dec.{leb, ltb, eqb};
 ghost use Rattle.finite.specs.Moments.{old};
 ghost use Rattle.finite.specs.Count.{count, In};
 ghost use Rattle.table.specs.Table.{vertices};
+ghost use Rattle.table.specs.Size.{sizeOf};
 ghost use Rattle.table.specs.Guard.{answer};
 ghost use Rattle.pool.specs.Input.{Admitted};
 ghost use Rattle.level_sheet.specs.SheetCheck.{sheetOf, checkSheetOf, numberIn, Tells};
@@ -20,9 +21,9 @@ use pool::pair::Pair;
 // In place of a number, where no test fails: above all of them.
 const NONE: u16 = 65535;
 
-// The answer of the check: the sheet is the defined one, or a refusal.
+// The answer of the check: the sheet is the defined one, with the size of the table, or a refusal.
 pub enum SheetChecked {
-    Defined,
+    Defined(table::size::Size),
     Refused(table::Refusal),
 }
 
@@ -225,12 +226,12 @@ pub fn check_sheet(
     levels: &[u16],
     layers: &[u16],
 ) -> SheetChecked
-    ensures answer { λ r. ⌜ r ≡ answer (checkSheetOf (old starts) (old links) (old anchored) (old levels) (old layers)) Defined Refused ⌝ }
+    ensures answer { λ r. ⌜ r ≡ answer (checkSheetOf (old starts) (old links) (old anchored) (old levels) (old layers)) (Defined (sizeOf (old starts) (old links))) Refused ⌝ }
     ensures tells { λ r. ⌜ Tells (old starts) (old links) (old anchored) (old levels) (old layers) (numberIn r) ⌝ }
 {
     let tested = test_given(starts, links, anchored, levels, layers);
     match tested {
         table::Guard::Refused(refusal) => SheetChecked::Refused(refusal),
-        table::Guard::Passed => SheetChecked::Defined,
+        table::Guard::Passed => SheetChecked::Defined(table::size::measure(starts, links)),
     }
 }

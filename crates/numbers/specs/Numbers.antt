@@ -1,8 +1,9 @@
--- The numbers of an answer, as Rust and C get them: 0 and an accepted call's values, or a refusal's number and place.
+-- The numbers of an answer, as Rust and C get them: 0, an accepted call's values and the size of its table, or a refusal's number and place.
 use Prim.Native.Nat.{ℕ}
 use Rattle.numbers.specs.declared.Answer.{Answer}
 use Rattle.numbers.specs.declared.Sheeted.{Sheeted}
 use Rattle.table.specs.declared.Refusal.{Refusal}
+use Rattle.table.specs.declared.size.Size.{Size}
 use Rattle.table.specs.declared.Checked.{Checked}
 use Rattle.table.specs.declared.Checked.the-variants.{Sound, Refused as TableRefused}
 use Rattle.level.specs.declared.work.Worked.{Worked}
@@ -20,40 +21,40 @@ use Rattle.session.specs.declared.run.Ran.the-variants.{Served, Refused as Sess
 use Rattle.answer.specs.declared.call.Answered.{Answered}
 use Rattle.answer.specs.declared.call.Answered.the-variants.{Sheet, Refused as SheetRefused}
 
--- an accepted call, with its values
-abbrev pub acceptedAs : ℕ → ℕ → Answer
-acceptedAs first second = record { number = 0; first = first; second = second }
+-- an accepted call, with its values and the size of its table
+abbrev pub acceptedAs : ℕ → ℕ → Size → Answer
+acceptedAs first second size = record { number = 0; first = first; second = second; edges = size .edges; «max_degree» = size .«max_degree» }
 
--- a refused call
+-- a refused call, which says nothing of a size
 abbrev pub refusedAs : Refusal → Answer
-refusedAs r = record { number = r .number; first = r .place; second = 0 }
+refusedAs r = record { number = r .number; first = r .place; second = 0; edges = 0; «max_degree» = 0 }
 
 abbrev pub checkedAs : Checked → Answer
-checkedAs Sound = acceptedAs 0 0
+checkedAs (Sound size) = acceptedAs 0 0 size
 checkedAs (TableRefused r) = refusedAs r
 
 abbrev pub workedAs : Worked → Answer
-workedAs Done = acceptedAs 0 0
+workedAs (Done size) = acceptedAs 0 0 size
 workedAs (WorkRefused r) = refusedAs r
 
 abbrev pub levelsAs : SheetChecked → Answer
-levelsAs Defined = acceptedAs 0 0
+levelsAs (Defined size) = acceptedAs 0 0 size
 levelsAs (LevelsRefused r) = refusedAs r
 
 abbrev pub listedAs : Listed → Answer
-listedAs (Count count) = acceptedAs count 0
+listedAs (Count count size) = acceptedAs count 0 size
 listedAs (ListRefused r) = refusedAs r
 
 abbrev pub searchedAs : Searched → Answer
-searchedAs (Found lifted reached) = acceptedAs lifted reached
+searchedAs (Found lifted reached size) = acceptedAs lifted reached size
 searchedAs (SearchRefused r) = refusedAs r
 
 abbrev pub collapsedAs : Collapsed → Answer
-collapsedAs Marked = acceptedAs 0 0
+collapsedAs (Marked size) = acceptedAs 0 0 size
 collapsedAs (CollapseRefused r) = refusedAs r
 
 abbrev pub ranAs : Ran → Answer
-ranAs Served = acceptedAs 0 0
+ranAs (Served size) = acceptedAs 0 0 size
 ranAs (SessionRefused r) = refusedAs r
 
 -- the text-to-sheet call answers two numbers

@@ -7,6 +7,7 @@ use native.Mathlib.Omega.{arith}
 use lib.ListN.{length, getD}
 use lib.Dec.{ltb, eqb}
 use Rattle.table.specs.Table.{vertices}
+use Rattle.table.specs.declared.size.Size.{Size}
 use Rattle.table.specs.Guard.{refused, refuse, numberOf, answer}
 use Rattle.table.specs.declared.Guard.{Guard}
 use Rattle.table.specs.declared.Guard.the-variants.{Passed, Refused}
@@ -21,7 +22,7 @@ use Rattle.numbers.specs.Numbers.{levelsAs, acceptedAs, refusedAs}
 
 -- of the check of a level sheet
 pub number-is : (c : SheetChecked) → levelsAs c .number ≡ numberIn c
-number-is Defined = refl
+number-is (Defined size) = refl
 number-is (LevelsRefused r) = refl
 
 -- a session's refusals have the numbers 1 to 12
@@ -44,10 +45,10 @@ between-run s l given m matches fits =
     lent false = λ r e. let q : 12 ≡ r .number = cc in omega arith
 
 -- a session that answers 0 was not refused
-pub run-numbered : (s l given : List ℕ) (m : ℕ) (matches fits : Bool) → answer (admitRun s l given m matches fits) (acceptedAs 0 0) refusedAs .number ≡ 0 → admitRun s l given m matches fits ≡ Passed
+pub run-numbered : (s l given : List ℕ) (m : ℕ) (matches fits : Bool) (size : Size) → answer (admitRun s l given m matches fits) (acceptedAs 0 0 size) refusedAs .number ≡ 0 → admitRun s l given m matches fits ≡ Passed
 unfolding answer
-run-numbered s l given m matches fits e = let guard = admitRun s l given m matches fits in zero-sound guard 12 (between-run s l given m matches fits) (number-of guard ∙ e)
+run-numbered s l given m matches fits size e = let guard = admitRun s l given m matches fits in zero-sound guard 12 (between-run s l given m matches fits) (number-of guard ∙ e)
   where
-    number-of : (g : Guard) → numberOf g ≡ answer g (acceptedAs 0 0) refusedAs .number
+    number-of : (g : Guard) → numberOf g ≡ answer g (acceptedAs 0 0 size) refusedAs .number
     number-of Passed = refl
     number-of (Refused r) = refl

@@ -4,6 +4,7 @@ ghost use mathlib.Core.List.{[], _∷_, map};
 ghost use lib.ListN.{length};
 ghost use Rattle.finite.specs.Moments.{old, final};
 ghost use Rattle.finite.specs.Count.{tabulate, count, below};
+ghost use Rattle.table.specs.Size.{sizeOf};
 ghost use Rattle.table.specs.Guard.{answer, held, front};
 ghost use Rattle.anchored.specs.Core.{level, layer};
 ghost use Rattle.anchored.specs.Component.{component, heads};
@@ -31,7 +32,7 @@ pub extern "C" fn planner_work(
         let G = graphOf (old starts) (old links) in
         let A = anchoredBy (old anchored) in
         let guard = slicesOf (old starts) (old links) (old anchored) (map length (old levels ∷ old layers ∷ old components ∷ [])) in
-        ⌜ (r ≡ answer guard (acceptedAs 0 0) refusedAs)
+        ⌜ (r ≡ answer guard (acceptedAs 0 0 (sizeOf (old starts) (old links))) refusedAs)
         × (final levels ≡ held guard (tabulate (level G A) (G .size)) (old levels))
         × (final layers ≡ held guard (tabulate (layer G A) (G .size)) (old layers))
         × (final components ≡ held guard (tabulate (component G A) (G .size)) (old components)) ⌝ }
@@ -51,7 +52,7 @@ pub extern "C" fn planner_list_components(
     ensures { λ r.
         let guard = slicesOf (old starts) (old links) (old anchored) (map length (old levels ∷ old sizes ∷ old numbers ∷ [])) in
         let G = graphOf (old starts) (old links) in
-        ⌜ (r ≡ answer guard (acceptedAs (count (heads G (anchoredBy (old anchored))) (below (G .size))) 0) refusedAs)
+        ⌜ (r ≡ answer guard (acceptedAs (count (heads G (anchoredBy (old anchored))) (below (G .size))) 0 (sizeOf (old starts) (old links))) refusedAs)
         × (final levels ≡ held guard (front (levelsOf (old starts) (old links) (old anchored)) (old levels)) (old levels))
         × (final sizes ≡ held guard (front (sizesOf (old starts) (old links) (old anchored)) (old sizes)) (old sizes))
         × (final numbers ≡ held guard (front (numbersOf (old starts) (old links) (old anchored)) (old numbers)) (old numbers)) ⌝ }
@@ -67,7 +68,7 @@ pub extern "C" fn planner_check_sheet(
     levels: &[u16],
     layers: &[u16],
 ) -> Answer
-    ensures answer { λ r. ⌜ r ≡ answer (checkSheetOf (old starts) (old links) (old anchored) (old levels) (old layers)) (acceptedAs 0 0) refusedAs ⌝ }
+    ensures answer { λ r. ⌜ r ≡ answer (checkSheetOf (old starts) (old links) (old anchored) (old levels) (old layers)) (acceptedAs 0 0 (sizeOf (old starts) (old links))) refusedAs ⌝ }
     ensures tells { λ r. ⌜ Tells (old starts) (old links) (old anchored) (old levels) (old layers) (r .number) ⌝ }
 {
     numbers::of_levels(level_sheet::check::check_sheet(starts, links, anchored, levels, layers))
@@ -87,7 +88,7 @@ pub extern "C" fn planner_followers(
         let G = graphOf (old starts) (old links) in
         let A = anchoredBy (old anchored) in
         let guard = searchOf (old starts) (old links) (old anchored) (old levels) (old layers) x (length (old marks)) in
-        ⌜ (r ≡ answer guard (acceptedAs (followers G A x) (reached G A x)) refusedAs)
+        ⌜ (r ≡ answer guard (acceptedAs (followers G A x) (reached G A x) (sizeOf (old starts) (old links))) refusedAs)
         × (final marks ≡ held guard (marksOf (old starts) (old links) (old anchored) x) (old marks)) ⌝ }
 {
     numbers::of_searched(search::followers(starts, links, anchored, levels, layers, x, marks))
@@ -105,7 +106,7 @@ pub extern "C" fn planner_collapse(
 ) -> Answer
     ensures { λ r.
         let guard = markingOf (old starts) (old links) (old anchored) (old levels) (old layers) x (length (old marks)) in
-        ⌜ (r ≡ answer guard (acceptedAs 0 0) refusedAs)
+        ⌜ (r ≡ answer guard (acceptedAs 0 0 (sizeOf (old starts) (old links))) refusedAs)
         × (final marks ≡ held guard (fallMarksOf (old starts) (old links) (old anchored) x) (old marks)) ⌝ }
 {
     numbers::of_collapsed(collapse::collapse(starts, links, anchored, levels, layers, x, marks))

@@ -1,6 +1,7 @@
-// A session over a list of events. `claim` is demand 3 of document 01, of every call that answers 0.
+// A session over a list of events. `claim` is demand 3 of document 01, of every call that answers 0; the size is that of the table before the events.
 ghost use mathlib.Core.Path.{_≡_};
 ghost use Rattle.finite.specs.Moments.{old, final};
+ghost use Rattle.table.specs.Size.{sizeOf};
 ghost use Rattle.table.specs.Guard.{answer, held};
 ghost use Rattle.session.specs.Run.{lists, slices, runOf, ended};
 ghost use Rattle.session.specs.Claim.{Claim};
@@ -30,7 +31,7 @@ pub extern "C" fn planner_run(
         let lent = slices (old starts) (old links) (old anchored) (old levels) (old layers) (old components) (old yields) (old stamps) (old status) (old lifted) (old redone) in
         let after = slices (final starts) (final links) (final anchored) (final levels) (final layers) (final components) (final yields) (final stamps) (final status) (final lifted) (final redone) in
         let guard = runOf (old given) events lent in
-        ⌜ (r ≡ answer guard (acceptedAs 0 0) refusedAs) × (after ≡ held guard (ended (old starts) (old links) (old given) events) lent) ⌝ }
+        ⌜ (r ≡ answer guard (acceptedAs 0 0 (sizeOf (old starts) (old links))) refusedAs) × (after ≡ held guard (ended (old starts) (old links) (old given) events) lent) ⌝ }
     ensures claim { λ r. ⌜ (r .number ≡ 0 → Claim (old starts) (old links) (old given) (lists (old kinds) (old firsts) (old seconds))) ⌝ }
 {
     numbers::of_ran(session::run::run(

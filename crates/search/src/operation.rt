@@ -4,6 +4,7 @@ ghost use Prim.Native.Nat.{_<_};
 ghost use lib.ListN.{length, getD};
 ghost use Rattle.finite.specs.Moments.{old, final};
 ghost use Rattle.table.specs.Table.{vertices};
+ghost use Rattle.table.specs.Size.{sizeOf};
 ghost use Rattle.table.specs.Guard.{held};
 ghost use Rattle.anchored.specs.Followers.{followers as followersIn, reached as reachedIn};
 ghost use Rattle.pool.specs.Input.{graphOf, anchoredBy, Admitted};
@@ -11,9 +12,9 @@ ghost use Rattle.level_sheet.specs.SheetCheck.{Accepted};
 ghost use Rattle.search.specs.Answers.{searchOf, followersOf, marksOf};
 ghost use Rattle.search.specs.declared.operation.Searched.the-variants.{Found};
 
-// The answer of a search: how many follow and how many are candidates, or a refusal.
+// The answer of a search: how many follow and how many are candidates, with the size of the table, or a refusal.
 pub enum Searched {
-    Found(usize, usize),
+    Found(usize, usize, table::size::Size),
     Refused(table::Refusal),
 }
 
@@ -58,13 +59,14 @@ fn write_marks(
     ensures answer { λ r.
         let G = graphOf (old starts) (old links) in
         let A = anchoredBy (old anchored) in
-        ⌜ r ≡ Found (followersIn G A x) (reachedIn G A x) ⌝ }
+        ⌜ r ≡ Found (followersIn G A x) (reachedIn G A x) (sizeOf (old starts) (old links)) ⌝ }
     ensures marks { λ r. ⌜ final marks ≡ marksOf (old starts) (old links) (old anchored) x ⌝ }
 {
+    let size = table::size::measure(starts, links);
     let mut mark = [0u8; 1024];
     let found = crate::find::search(starts, links, anchored, levels, layers, x, &mut mark);
     pool::lent::copy_bytes(&mark, marks);
-    Searched::Found(found.lifted, found.reached)
+    Searched::Found(found.lifted, found.reached, size)
 }
 
 // Marks those that follow x (2) and the other candidates (1), and counts both; a refusal leaves the marks as they are.

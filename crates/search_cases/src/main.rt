@@ -22,10 +22,12 @@ fn print_marks(name: &[u8], title: &[u8], marks: &[u8]) {
 
 fn print_found(answer: Searched) {
     match answer {
-        Searched::Found(lifted, reached) => {
+        Searched::Found(lifted, reached, size) => {
             text(b" lifted");
             number(lifted);
-            cases::print::count(b" reached", b"", reached);
+            text(b" reached");
+            number(reached);
+            cases::print::end_size(size);
         }
         Searched::Refused(refusal) => cases::print::refusal(b"", b"", refusal),
     }
@@ -48,7 +50,7 @@ fn search(
 
 fn print_collapsed(answer: Collapsed) {
     match answer {
-        Collapsed::Marked => cases::print::sound(b"", b""),
+        Collapsed::Marked(size) => cases::print::sound(b"", b"", size),
         Collapsed::Refused(refusal) => cases::print::refusal(b"", b"", refusal),
     }
 }

@@ -26,7 +26,7 @@ use Rattle.pool.specs.Input.{graphOf, anchoredBy}
 use Rattle.search.specs.declared.operation.Searched.the-variants.{Found}
 use Rattle.edit.specs.Edit.{lastStart, startsOf, linksOf}
 use Rattle.session.specs.Run.{Lists, size, prefix, eventAt, Slices, sized, runOf, poolOf, rowAt, ended}
-use Rattle.session.specs.Claim.{upto, graph, set, redone, shown, climbs, gains, Stays, Fresh, Plainly, Anchors, Edits, Refuses, Anchoring, Claim}
+use Rattle.session.specs.Claim.{upto, graph, set, sizeAt, redone, shown, climbs, gains, Stays, Fresh, Plainly, Anchors, Edits, Refuses, Anchoring, Claim}
 use Rattle.session.specs.Runs.{Runs}
 use Rattle.session.proofs.Runs.{prefix-size, prefix-all, runs-prefix, run-passes, run-sound}
 use Rattle.session.proofs.Tables.{Standing, start-starts, start-links, pools-stand}
@@ -98,7 +98,7 @@ module _ (s l given : List ℕ) (events : Lists) (runs : Runs s l given events) 
       layers = sym (in-slices (λ g B. tabulate (layer g B) n));
       components = sym (in-slices (λ g B. tabulate (component g B) n));
       anchored = λ v b t. yield-anchored stands v b (in-set v t);
-      search = λ v b t. search-at stands v b (in-none v t) ∙ sym (in-slices (λ g B. Found (followers g B v) (reached g B v)));
+      search = λ v b t. search-at stands v b (in-none v t) ∙ sym (in-slices (λ g B. Found (followers g B v) (reached g B v) (sizeAt s l given events i)));
       yields = λ v b t. yield-free stands v b (in-none v t) ∙ yield-made stands v b
           ∙ sym (in-slices (λ g B. pos (followers g B v) -ℤ pos (getD (record-at i .levels) v 0 - bareLevel g v)));
     }
@@ -166,7 +166,7 @@ module _ (s l given : List ℕ) (events : Lists) (runs : Runs s l given events) 
             links = ap (λ R. linksOf (R .graph)) next;
             anchored = event.anchored-set step kind;
             search = search-at (stands i) x (event.anchor-vertex step kind) (event.anchor-free step kind)
-                ∙ ap₂ Found (sym (ap (λ r. r .lifted) row-at ∙ event.anchor-lifted step kind)) (sym (in-slices i (λ g B. reached g B x)));
+                ∙ ap₂ (λ lifted reached. Found lifted reached (sizeAt s l given events i)) (sym (ap (λ r. r .lifted) row-at ∙ event.anchor-lifted step kind)) (sym (in-slices i (λ g B. reached g B x)));
             lifted = ap (λ r. r .lifted) row-at ∙ event.anchor-marked step kind;
             levels = event.anchor-levels step kind;
             stamped = λ v b t. stamps v b ∙ rw (true-of (eqb x v || again v) t);

@@ -12,6 +12,7 @@ use Rattle.finite.specs.Count.{bit, tabulate, sum, below}
 use Rattle.finite.proofs.Tests.{split, true-of, false-of, neqb}
 use Rattle.finite.proofs.Count.{bit-le, bit-one, length-tabulate, tabulate-reads, tabulate-at, sum-cong, in-below}
 use Rattle.table.specs.Table.{vertices}
+use Rattle.table.specs.Size.{sizeOf}
 use Rattle.table.specs.declared.Guard.the-variants.{Passed}
 use Rattle.table.proofs.Laws.{sound}
 use Rattle.anchored.specs.Graph.{Graph, Simple}
@@ -90,7 +91,7 @@ module _ {n : ℕ} {P : Pool} (stands : Standing n P) where
       }
 
   -- the search from a vertex that is not anchored accepts the record
-  pub search-at : (x : ℕ) → x < n → T (not (A x)) → followersOf starts links bytes levels layers x n ≡ Found (followers G A x) (reached G A x)
+  pub search-at : (x : ℕ) → x < n → T (not (A x)) → followersOf starts links bytes levels layers x n ≡ Found (followers G A x) (reached G A x) (sizeOf starts links)
   search-at x b free =
       let same = stands .vertices in
       let table = sound starts links (stands .checked) in
@@ -98,7 +99,7 @@ module _ {n : ℕ} {P : Pool} (stands : Standing n P) where
       ∙ vertex-within starts links bytes levels layers x (accepts starts links bytes levels layers table sheet) (omega arith) in
       let unanchored = neqb (getD bytes x 0) 1 (subst (λ B. T (not (B x))) (sym set-is) free) in
       followers-found starts links bytes levels layers x n (search-free starts links bytes levels layers x n marking unanchored)
-      ∙ ap₂ (λ g B. Found (followers g B x) (reached g B x)) (stands .cut) set-is
+      ∙ ap₂ (λ g B. Found (followers g B x) (reached g B x) (sizeOf starts links)) (stands .cut) set-is
 
   -- the yield of an anchored vertex, and of any other
   pub yield-anchored : (v : ℕ) → v < n → T (A v) → getD (tabulate (netYield G A) n) v (pos 0) ≡ least

@@ -6,11 +6,12 @@ use Prim.Native.Nat.{ℕ, _-_}
 use lib.ListN.{length, replicate}
 use lib.IntN.{ℤ, pos, negsuc}
 use Rattle.finite.specs.Count.{tabulate, below, count, sum}
-use Rattle.finite.specs.Search.{any, all, firstFrom, first, largest, ascending}
+use Rattle.finite.specs.Search.{any, all, firstFrom, first, largest, greatestOf, ascending}
 use Rattle.finite.specs.Sets.{keep, having, rounds, grow}
 use Rattle.finite.specs.Pairs.{pairLe}
 use Rattle.finite.specs.Edits.{insert, remove}
 use Rattle.table.specs.Table.{neighbors, badStart, beyond, looped, unsorted, unreturned, checkOf}
+use Rattle.table.specs.Size.{edgesOf, sizeOf}
 use Rattle.table.specs.Guard.{refused, answer}
 use Rattle.table.specs.declared.Guard.{Guard}
 use Rattle.table.specs.declared.Guard.the-variants.{Passed}
@@ -86,7 +87,7 @@ pub cases :
     -- F
     × (rows (table (0 ∷ 2 ∷ 4 ∷ 6 ∷ 8 ∷ []) (1 ∷ 3 ∷ 0 ∷ 2 ∷ 1 ∷ 3 ∷ 0 ∷ 2 ∷ [])) none ≡ ((2 ∷ 2 ∷ 2 ∷ 2 ∷ []) ∷ (1 ∷ 1 ∷ 1 ∷ 1 ∷ []) ∷ (0 ∷ 0 ∷ 0 ∷ 0 ∷ []) ∷ [], pos 0 ∷ pos 0 ∷ pos 0 ∷ pos 0 ∷ []))
     -- G
-    × (followersOf (star .starts) (star .links) (0 ∷ 1 ∷ 0 ∷ 0 ∷ []) (1 ∷ 65535 ∷ 1 ∷ 1 ∷ []) (2 ∷ 0 ∷ 1 ∷ 1 ∷ []) 2 4 ≡ Found 1 1)
+    × (followersOf (star .starts) (star .links) (0 ∷ 1 ∷ 0 ∷ 0 ∷ []) (1 ∷ 65535 ∷ 1 ∷ 1 ∷ []) (2 ∷ 0 ∷ 1 ∷ 1 ∷ []) 2 4 ≡ Found 1 1 (record { edges = 3; «max_degree» = 3 }))
     × (marksOf (star .starts) (star .links) (0 ∷ 1 ∷ 0 ∷ 0 ∷ []) 2 ≡ 2 ∷ 0 ∷ 0 ∷ 0 ∷ [])
     -- H
     × (rows (table (0 ∷ 3 ∷ 6 ∷ 9 ∷ 12 ∷ []) (1 ∷ 2 ∷ 3 ∷ 0 ∷ 2 ∷ 3 ∷ 0 ∷ 1 ∷ 3 ∷ 0 ∷ 1 ∷ 2 ∷ [])) none ≡ ((3 ∷ 3 ∷ 3 ∷ 3 ∷ []) ∷ (1 ∷ 1 ∷ 1 ∷ 1 ∷ []) ∷ (0 ∷ 0 ∷ 0 ∷ 0 ∷ []) ∷ [], pos 0 ∷ pos 0 ∷ pos 0 ∷ pos 0 ∷ []))
@@ -100,5 +101,5 @@ pub cases :
     × (session chain none (lists (0 ∷ 1 ∷ 2 ∷ []) (0 ∷ 0 ∷ 1 ∷ []) (7 ∷ 3 ∷ 2 ∷ [])) ≡ (0 ∷ 0 ∷ 0 ∷ []) ∷ (0 ∷ 0 ∷ 0 ∷ []) ∷ (2 ∷ 3 ∷ 3 ∷ []) ∷ (1 ∷ 3 ∷ 3 ∷ 3 ∷ []) ∷ [])
     -- 9 for lists not of one length comes before 10
     × (called chain (0 ∷ 2 ∷ 0 ∷ 0 ∷ []) (lists (0 ∷ []) (0 ∷ []) []) ∷ called chain (0 ∷ 2 ∷ 0 ∷ 0 ∷ []) (anchoring []) ∷ [] ≡ refused 9 0 ∷ refused 10 1 ∷ [])
-unfolding answer tabulate below count sum any all firstFrom first largest ascending keep having rounds grow pairLe insert remove neighbors badStart beyond looped unsorted unreturned checkOf checkLent linkCount batch core level shell layer greater higher joins around component together follows followers firstStep onward candidates reached mark bareLevel climb net netYield misplaced tooHigh tooLow tooLate above sameInside undisturbed seesDisturbed seesNew moved recomputed statusOf rowOf turn edgeStatus eventStatus eventRow eventTurn afterEvents admitOf sheetOf checkSheetOf vertexOf markingOf searchOf followersOf admitRun
+unfolding answer tabulate below count sum any all firstFrom first largest greatestOf ascending keep having rounds grow pairLe insert remove neighbors badStart beyond looped unsorted unreturned checkOf edgesOf sizeOf checkLent linkCount batch core level shell layer greater higher joins around component together follows followers firstStep onward candidates reached mark bareLevel climb net netYield misplaced tooHigh tooLow tooLate above sameInside undisturbed seesDisturbed seesNew moved recomputed statusOf rowOf turn edgeStatus eventStatus eventRow eventTurn afterEvents admitOf sheetOf checkSheetOf vertexOf markingOf searchOf followersOf admitRun
 cases = (refl, refl, refl, refl, refl, refl, refl, refl, refl, refl, refl, refl, refl, refl, refl)

@@ -9,6 +9,8 @@ use lib.IntN.{ℤ, pos, _+ℤ_, _-ℤ_}
 use lib.Dec.{T, eqb}
 use Rattle.finite.specs.Count.{bit, tabulate, count, sum, below}
 use Rattle.table.specs.Table.{vertices}
+use Rattle.table.specs.Size.{sizeOf}
+use Rattle.table.specs.declared.size.Size.{Size}
 use Rattle.table.specs.declared.Guard.the-variants.{Passed}
 use Rattle.anchored.specs.Graph.{Graph}
 use Rattle.anchored.specs.Core.{level, layer}
@@ -47,6 +49,10 @@ module _ (s l given : List ℕ) (events : Lists) where
   -- who is anchored in that record
   abbrev pub set : ℕ → ℕ → Bool
   set i = anchoredBy (upto i .anchored)
+
+  -- the size of that table
+  abbrev pub sizeAt : ℕ → Size
+  sizeAt i = sizeOf (upto i .starts) (linked i)
 
   -- what the search from x answers to that table and to the record's own bytes, levels and layers, and the marks it leaves
   abbrev pub searched : ℕ → ℕ → Searched
@@ -87,7 +93,7 @@ module _ (s l given : List ℕ) (events : Lists) where
     pub components : upto i .components ≡ tabulate (component (graph i) (set i)) n
     -- the (net) yield of an anchored vertex reads -32,768, any other is what the search answers less the level above the bare one
     pub anchored : (v : ℕ) → v < n → T (set i v) → getD (upto i .yields) v (pos 0) ≡ least
-    pub search : (v : ℕ) → v < n → T (not (set i v)) → searched i v ≡ Found (followers (graph i) (set i) v) (reached (graph i) (set i) v)
+    pub search : (v : ℕ) → v < n → T (not (set i v)) → searched i v ≡ Found (followers (graph i) (set i) v) (reached (graph i) (set i) v) (sizeAt i)
     pub yields : (v : ℕ) → v < n → T (not (set i v)) → getD (upto i .yields) v (pos 0) ≡ pos (followers (graph i) (set i) v) -ℤ pos (getD (upto i .levels) v 0 - bareLevel (graph i) v)
 
   -- its table, bytes and stamps are the plain session's
@@ -102,7 +108,7 @@ module _ (s l given : List ℕ) (events : Lists) where
     pub links : upto (i + 1) .links ≡ upto i .links
     pub anchored : set (i + 1) ≡ adding (set i) x
     -- the search from x, with the table and the sheet just before, answers the number shown as lifted: so many are marked 2
-    pub search : searched i x ≡ Found (shown i .lifted) (reached (graph i) (set i) x)
+    pub search : searched i x ≡ Found (shown i .lifted) (reached (graph i) (set i) x) (sizeAt i)
     pub lifted : shown i .lifted ≡ count (λ v. eqb (getD (marks i x) v 0) 2) (below n)
     -- x apart, changed levels are exactly those of the vertices marked 2, each up by one
     pub levels : (v : ℕ) → v < n → (v ≡ x → ⊥) → getD (upto (i + 1) .levels) v 0 ≡ getD (upto i .levels) v 0 + bit (eqb (getD (marks i x) v 0) 2)

@@ -7,6 +7,8 @@ ghost use Rattle.finite.specs.Count.{tabulate};
 ghost use Rattle.finite.specs.Search.{all};
 ghost use Rattle.finite.specs.Moments.{old, final};
 ghost use Rattle.table.specs.Table.{vertices};
+ghost use Rattle.table.specs.Size.{sizeOf};
+ghost use Rattle.table.specs.declared.size.Size.{Size};
 ghost use Rattle.table.specs.Guard.{refused, answer, held};
 ghost use Rattle.table.specs.declared.Guard.the-variants.{Passed};
 ghost use Rattle.edit.specs.Edit.{Tabled};
@@ -17,9 +19,9 @@ ghost use Rattle.session.specs.Claim.{Claim};
 ghost use Rattle.session.specs.declared.run.Ran.the-variants.{Served, Refused};
 use records::Record;
 
-// The answer of a session: its list is served, or a refusal.
+// The answer of a session: its list is served, with the size of the table before the events, or a refusal.
 pub enum Ran {
-    Served,
+    Served(table::size::Size),
     Refused(table::Refusal),
 }
 
@@ -186,10 +188,10 @@ pub fn run(
         let lent = slices (old starts) (old links) (old anchored) (old levels) (old layers) (old components) (old yields) (old stamps) (old status) (old lifted) (old redone) in
         let after = slices (final starts) (final links) (final anchored) (final levels) (final layers) (final components) (final yields) (final stamps) (final status) (final lifted) (final redone) in
         let guard = runOf (old given) events lent in
-        ⌜ (r ≡ answer guard Served Refused) × (after ≡ held guard (ended (old starts) (old links) (old given) events) lent) ⌝ }
+        ⌜ (r ≡ answer guard (Served (sizeOf (old starts) (old links))) Refused) × (after ≡ held guard (ended (old starts) (old links) (old given) events) lent) ⌝ }
     ensures claim { λ r.
         let events = lists (old kinds) (old firsts) (old seconds) in
-        ⌜ (r ≡ Served → Claim (old starts) (old links) (old given) events) ⌝ }
+        ⌜ ((size : Size) → r ≡ Served size → Claim (old starts) (old links) (old given) events) ⌝ }
 {
     let rest = [firsts.len(), seconds.len()];
     let records = [
@@ -205,6 +207,7 @@ pub fn run(
     match admitted {
         table::Guard::Refused(refusal) => Ran::Refused(refusal),
         table::Guard::Passed => {
+            let size = table::size::measure(starts, links);
             write(
                 starts,
                 links,
@@ -222,7 +225,7 @@ pub fn run(
                 lifted,
                 redone,
             );
-            Ran::Served
+            Ran::Served(size)
         }
     }
 }

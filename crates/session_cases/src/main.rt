@@ -12,7 +12,7 @@ use session::run::Ran;
 
 fn print_ran(name: &[u8], answer: Ran) {
     match answer {
-        Ran::Served => cases::print::sound(name, b""),
+        Ran::Served(size) => cases::print::sound(name, b"", size),
         Ran::Refused(refusal) => cases::print::refusal(name, b"", refusal),
     }
 }

@@ -37,6 +37,9 @@ module _ (s l : List ℕ) (some : 0 < length s) (none : NoneBelow (badStart s l)
       let z : eqb (vertices s + 1) (length s) ≡ true = eq-eqb (vertices s + 1) (length s) (omega arith) in
       eqb-true (getD s (vertices s) 0) (length l) (not-false (eqb (getD s (vertices s) 0) (length l)) (rw z at e))
 
+  start-first : getD s 0 0 ≡ 0
+  start-first = eqb-true (getD s 0 0) 0 (not-false (eqb (getD s 0 0) 0) (false-of (wrongStep s 0) (not-wrong 0 some .1)))
+
   start-within : (k v : ℕ) → v + k ≡ vertices s → getD s v 0 ≤ length l
   start-within zero v e = let q : v ≡ vertices s = omega arith in rw q (omega (arith, start-last))
   start-within (suc k) v e = omega (arith, start-step v (omega arith), start-within k (v + 1) (omega arith))
@@ -114,6 +117,17 @@ sound s l e =
       distinct = λ v h. ascending-distinct (neighbors s l v) (sorted s l (ascending .0) v h);
       symmetric = λ v w h i. member-e v (neighbors s l w) (of-true (member v (neighbors s l w)) (not-false (member v (neighbors s l w)) (not-any (λ u. not (member v (neighbors s l u))) (neighbors s l v) (symmetric .0 v h) w i)));
     }
+
+-- the links of a sound table go from place 0 to its last start
+pub ends : (s l : List ℕ) → checkOf s l ≡ Passed → (getD s 0 0 ≡ 0) × (getD s (vertices s) 0 ≡ length l)
+unfolding checkOf
+ends s l e =
+    let some = went-on (eqb (length s) 0) 1 0 _ e in
+    let small = went-on (ltb 1024 (vertices s)) 2 0 _ (some .1) in
+    let few = went-on (ltb 16384 (length l)) 3 0 _ (small .1) in
+    let starts = went-past 4 (badStart s l) (length s) _ (few .1) .0 in
+    let ne = eqb-false (length s) 0 (some .0) in
+    (start-first s l (omega arith) starts, start-last s l (omega arith) starts)
 
 -- a search whose result is below the end refuses there
 pub hit : (k : ℕ) (p : ℕ → Bool) (n : ℕ) (rest : Guard) {r : ℕ} → r ≡ first p n → r < n → refuse k p n rest ≡ refused k r

@@ -3,10 +3,12 @@ use mathlib.Core.Path.{_≡_, refl}
 use mathlib.Core.List.{List, [], _∷_}
 use Prim.Native.Nat.{ℕ}
 use lib.ListN.{replicate}
-use Rattle.finite.specs.Count.{tabulate, below}
-use Rattle.finite.specs.Search.{any, all, firstFrom, first, ascending}
+use Rattle.finite.specs.Count.{tabulate, below, count, sum}
+use Rattle.finite.specs.Search.{any, all, firstFrom, first, greatestOf, ascending}
 use Rattle.table.specs.Table.{neighbors, badStart, beyond, looped, unsorted, unreturned, checkOf}
+use Rattle.table.specs.Size.{edgesOf, sizeOf}
 use Rattle.table.specs.Guard.{refused}
+use Rattle.table.specs.declared.size.Size.{Size}
 use Rattle.table.specs.declared.Guard.{Guard}
 use Rattle.table.specs.declared.Guard.the-variants.{Passed}
 
@@ -54,3 +56,21 @@ answers :
     ∷ [])
 unfolding checkOf neighbors badStart beyond looped unsorted unreturned first firstFrom any all ascending below tabulate
 answers = refl
+
+-- a chain, a star, an edge beside a vertex alone, one vertex, no vertices
+sizes :
+    _≡_ {A = List Size}
+    (sizeOf chain (1 ∷ 0 ∷ 2 ∷ 1 ∷ 3 ∷ 2 ∷ [])
+    ∷ sizeOf (0 ∷ 3 ∷ 4 ∷ 5 ∷ 6 ∷ []) (1 ∷ 2 ∷ 3 ∷ 0 ∷ 0 ∷ 0 ∷ [])
+    ∷ sizeOf (0 ∷ 1 ∷ 1 ∷ 2 ∷ []) (2 ∷ 0 ∷ [])
+    ∷ sizeOf (0 ∷ 0 ∷ []) []
+    ∷ sizeOf (0 ∷ []) []
+    ∷ [])
+    (record { edges = 3; «max_degree» = 2 }
+    ∷ record { edges = 3; «max_degree» = 3 }
+    ∷ record { edges = 1; «max_degree» = 1 }
+    ∷ record { edges = 0; «max_degree» = 0 }
+    ∷ record { edges = 0; «max_degree» = 0 }
+    ∷ [])
+unfolding sizeOf edgesOf neighbors greatestOf sum count any below tabulate
+sizes = refl

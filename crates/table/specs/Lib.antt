@@ -1,4 +1,5 @@
 pub mod Guard
 pub mod Table
 pub mod Paired
+pub mod Size
 pub mod Cases

@@ -4,12 +4,14 @@ ghost use Prim.Native.Nat.{_<_};
 ghost use Rattle.finite.specs.Moments.{old};
 ghost use Rattle.table.specs.Table.{vertices, checkOf, Framed};
 ghost use Rattle.table.specs.Table.{neighbors as neighborsOf};
+ghost use Rattle.table.specs.Size.{sizeOf};
 ghost use Rattle.table.specs.Guard.{answer, refused as refusedOf};
 ghost use Rattle.table.specs.declared.Checked.the-variants.{Sound, Refused as RefusedTable};
 
 mod paired; // the one pass that a sound table passes
 pub mod part; // one vertex's neighbors
 mod rules; // the first start, or the first vertex, that breaks a rule
+pub mod size; // edges and the greatest degree
 
 // A refusal: document 01's number and place.
 pub struct Refusal {
@@ -23,9 +25,9 @@ pub enum Guard {
     Refused(Refusal),
 }
 
-// The answer of the check.
+// The answer of the check: the table is sound, with its size, or a refusal.
 pub enum Checked {
-    Sound,
+    Sound(size::Size),
     Refused(Refusal),
 }
 
@@ -89,11 +91,11 @@ pub fn test_table(starts: &[u16], links: &[u16]) -> Guard
 
 // The check of a table.
 pub fn check(starts: &[u16], links: &[u16]) -> Checked
-    ensures { λ r. ⌜ r ≡ answer (checkOf (old starts) (old links)) Sound RefusedTable ⌝ }
+    ensures { λ r. ⌜ r ≡ answer (checkOf (old starts) (old links)) (Sound (sizeOf (old starts) (old links))) RefusedTable ⌝ }
 {
     let tested = test_table(starts, links);
     match tested {
         Guard::Refused(refusal) => Checked::Refused(refusal),
-        Guard::Passed => Checked::Sound,
+        Guard::Passed => Checked::Sound(size::measure(starts, links)),
     }
 }

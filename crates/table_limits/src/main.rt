@@ -8,11 +8,11 @@ use cases::read::numbers;
 use libc::STDIN_FILENO;
 use table::Checked;
 
-// Prints `NAME: sound` or `NAME: refused NUMBER PLACE`.
+// Prints `NAME: sound` and the size, or `NAME: refused NUMBER PLACE`.
 fn run(name: &[u8], starts: &[u16], links: &[u16]) {
     let answer = table::check(starts, links);
     match answer {
-        Checked::Sound => cases::print::sound(name, b":"),
+        Checked::Sound(size) => cases::print::sound(name, b":", size),
         Checked::Refused(refusal) => cases::print::refusal(name, b":", refusal),
     }
 }

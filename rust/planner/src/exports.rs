@@ -1,12 +1,14 @@
 //! What the archive exports. A slice passes as its pointer and its length. tests/declarations.rs holds these declarations to the Rattle
 //! source, crates/planner_c/src, and to include/planner.h, which says what each parameter is.
 
-/// Number 0 for an accepted call, with its values; else the refusal's number and place.
+/// Number 0 for an accepted call, with its values and the size of its table; else the refusal's number and place.
 #[repr(C)]
 pub struct Answer {
     pub number: u64,
     pub first: u64,
     pub second: u64,
+    pub edges: u64,
+    pub max_degree: u64,
 }
 
 /// Number 0 and the sheet's length; else the refusal's number and place.

@@ -10,16 +10,28 @@ use exports::Answer;
 pub use refusal::Refusal;
 
 impl Answer {
-    fn result(self) -> Result<(usize, usize), Refusal> {
-        match self.number {
-            0 => Ok((self.first as usize, self.second as usize)),
-            number => Err(Refusal { number, place: self.first }),
+    /// The two values that the call states, and the size of its table.
+    fn result(self) -> Result<(usize, usize, Size), Refusal> {
+        let Answer { number, first, second, edges, max_degree } = self;
+        match number {
+            0 => Ok((first as usize, second as usize, Size { edges: edges as usize, max_degree: max_degree as usize })),
+            number => Err(Refusal { number, place: first }),
         }
     }
 
-    fn done(self) -> Result<(), Refusal> {
-        self.result().map(|_| ())
+    /// The size, of a call that states nothing else.
+    fn size(self) -> Result<Size, Refusal> {
+        self.result().map(|(_, _, size)| size)
     }
+}
+
+/// The size of a table, as it was handed in: every call but [`text_to_sheet`] answers it where it accepts.
+#[derive(Clone, Copy, PartialEq, Eq, Debug)]
+pub struct Size {
+    /// How many edges there are.
+    pub edges: usize,
+    /// The most neighbors that a vertex has; 0 if there are no vertices.
+    pub max_degree: usize,
 }
 
 /// A table and the anchored bytes.
@@ -30,13 +42,22 @@ pub struct Input<'a> {
     pub anchored: &'a [u8],
 }
 
-/// What a search counts.
+/// What a component list counts, and the size of its table.
+#[derive(Clone, Copy, PartialEq, Eq, Debug)]
+pub struct Listed {
+    /// The components, which are the entries written.
+    pub count: usize,
+    pub size: Size,
+}
+
+/// What a search counts, and the size of its table.
 #[derive(Clone, Copy, PartialEq, Eq, Debug)]
 pub struct Found {
     /// The vertices that one more anchor lifts.
     pub lifted: usize,
     /// The vertices that upstair walks reach, those lifted included.
     pub reached: usize,
+    pub size: Size,
 }
 
 /// The link places of a table that is lent to a session.
@@ -104,13 +125,13 @@ impl Record {
 }
 
 /// The check of a table.
-pub fn check(starts: &[u16], links: &[u16]) -> Result<(), Refusal> {
+pub fn check(starts: &[u16], links: &[u16]) -> Result<Size, Refusal> {
     // SAFETY: pointers and lengths of live slices, which the call only reads; it is proved to stay in them and keeps none.
-    unsafe { exports::planner_check(starts.as_ptr(), starts.len(), links.as_ptr(), links.len()) }.done()
+    unsafe { exports::planner_check(starts.as_ptr(), starts.len(), links.as_ptr(), links.len()) }.size()
 }
 
 /// Levels, layers and components.
-pub fn work(input: Input, levels: &mut [u16], layers: &mut [u16], components: &mut [u16]) -> Result<(), Refusal> {
+pub fn work(input: Input, levels: &mut [u16], layers: &mut [u16], components: &mut [u16]) -> Result<Size, Refusal> {
     let Input { starts, links, anchored } = input;
     // SAFETY: pointers and lengths of live slices, no other borrow of those for writing; the call is proved to stay in them and keeps none.
     unsafe {
@@ -119,11 +140,11 @@ pub fn work(input: Input, levels: &mut [u16], layers: &mut [u16], components: &m
             levels.as_mut_ptr(), levels.len(), layers.as_mut_ptr(), layers.len(), components.as_mut_ptr(), components.len(),
         )
     }
-    .done()
+    .size()
 }
 
-/// The component list, by falling level, then by rising number: how many entries were written.
-pub fn list_components(input: Input, levels: &mut [u16], sizes: &mut [u16], numbers: &mut [u16]) -> Result<usize, Refusal> {
+/// The component list, by falling level, then by rising number.
+pub fn list_components(input: Input, levels: &mut [u16], sizes: &mut [u16], numbers: &mut [u16]) -> Result<Listed, Refusal> {
     let Input { starts, links, anchored } = input;
     // SAFETY: pointers and lengths of live slices, no other borrow of those for writing; the call is proved to stay in them and keeps none.
     unsafe {
@@ -133,12 +154,12 @@ pub fn list_components(input: Input, levels: &mut [u16], sizes: &mut [u16], numb
         )
     }
     .result()
-    .map(|(count, _)| count)
+    .map(|(count, _, size)| Listed { count, size })
 }
 
 /// The check of a level sheet: accepted exactly when it is the defined one. A sheet that is accepted, or refused with 20 or 21,
 /// overstates nobody's level.
-pub fn check_sheet(input: Input, levels: &[u16], layers: &[u16]) -> Result<(), Refusal> {
+pub fn check_sheet(input: Input, levels: &[u16], layers: &[u16]) -> Result<Size, Refusal> {
     let Input { starts, links, anchored } = input;
     // SAFETY: pointers and lengths of live slices, which the call only reads; it is proved to stay in them and keeps none.
     unsafe {
@@ -147,7 +168,7 @@ pub fn check_sheet(input: Input, levels: &[u16], layers: &[u16]) -> Result<(), R
             levels.as_ptr(), levels.len(), layers.as_ptr(), layers.len(),
         )
     }
-    .done()
+    .size()
 }
 
 /// The follower search: marks 2 for each vertex that x lifts, 1 for each other one that is reached, and 0 for all others.
@@ -161,12 +182,12 @@ pub fn followers(input: Input, levels: &[u16], layers: &[u16], x: usize, marks: 
         )
     }
     .result()
-    .map(|(lifted, reached)| Found { lifted, reached })
+    .map(|(lifted, reached, size)| Found { lifted, reached, size })
 }
 
 /// Who falls with x gone: marks 1 for each other vertex, not anchored, whose level would be lower were x and its edges not there, and 0
 /// for all others. x may be anchored.
-pub fn collapse(input: Input, levels: &[u16], layers: &[u16], x: usize, marks: &mut [u8]) -> Result<(), Refusal> {
+pub fn collapse(input: Input, levels: &[u16], layers: &[u16], x: usize, marks: &mut [u8]) -> Result<Size, Refusal> {
     let Input { starts, links, anchored } = input;
     // SAFETY: pointers and lengths of live slices, no other borrow of those for writing; the call is proved to stay in them and keeps none.
     unsafe {
@@ -175,12 +196,13 @@ pub fn collapse(input: Input, levels: &[u16], layers: &[u16], x: usize, marks: &
             levels.as_ptr(), levels.len(), layers.as_ptr(), layers.len(), x, marks.as_mut_ptr(), marks.len(),
         )
     }
-    .done()
+    .size()
 }
 
 /// A session: the table and `given`, who is anchored, are as they are at the start. The call leaves the table as the events left it, with 0
-/// in every place past its last start, and fills the record. A refusal leaves all of it alone.
-pub fn run(table: Table, given: &[u8], events: Events, record: &mut Record) -> Result<(), Refusal> {
+/// in every place past its last start, and fills the record; the size is that of the table before the events. A refusal leaves all of it
+/// alone.
+pub fn run(table: Table, given: &[u8], events: Events, record: &mut Record) -> Result<Size, Refusal> {
     let (Table { starts, links }, Events { kinds, firsts, seconds }) = (table, events);
     let Record { anchored, levels, layers, components, yields, stamps, status, lifted, redone } = record;
     // SAFETY: pointers and lengths of live slices, no other borrow of those for writing; the call is proved to stay in them and keeps none.
@@ -193,7 +215,7 @@ pub fn run(table: Table, given: &[u8], events: Events, record: &mut Record) -> R
             status.as_mut_ptr(), status.len(), lifted.as_mut_ptr(), lifted.len(), redone.as_mut_ptr(), redone.len(),
         )
     }
-    .done()
+    .size()
 }
 
 /// From a text to the answer sheet: the sheet's length. Bytes past it, and at a refusal all, stay.

@@ -7,7 +7,7 @@ use planner::Refusal;
 use pools::{Pool, Random};
 use reference::{Anchoring, Sheet};
 use shared::cases::{Case, Defined, WRONG_ENTRIES};
-use shared::{broken, input, page_examples, small_pools, wrong_lengths, DAMAGES};
+use shared::{broken, input, page_examples, small_pools, table_size, wrong_lengths, DAMAGES};
 use std::collections::{BTreeMap, BTreeSet};
 
 /// The pool with no edges at x.
@@ -32,7 +32,7 @@ fn without(pool: &Pool, x: usize) -> Pool {
 /// The levels by the planner's own fresh working.
 fn fresh_levels(pool: &Pool) -> Vec<u16> {
     let [mut levels, mut layers, mut components] = [0; 3].map(|_| vec![0; pool.size()]);
-    assert_eq!(planner::work(input(pool), &mut levels, &mut layers, &mut components), Ok(()), "{pool:?}");
+    assert_eq!(planner::work(input(pool), &mut levels, &mut layers, &mut components), table_size(pool), "{pool:?}");
     levels
 }
 
@@ -75,16 +75,17 @@ impl Compared {
     /// The call for x on some sheet, with room for so many marks, which have other bytes on either side; the marks if it is accepted.
     fn collapse(&mut self, case: &Case, sheet: &[Vec<u16>; 2], x: usize, length: usize) -> Result<Vec<u8>, Refusal> {
         let expected = case.lent(&[length]).and_then(|defined| {
-            case.checked(sheet)?;
+            let size = case.checked(sheet)?;
             if x >= case.pool.size() {
                 return Err(Refusal { number: 15, place: x as u64 });
             }
-            Ok((defined.working.collapse)(case.pool, defined, x))
+            Ok(((defined.working.collapse)(case.pool, defined, x), size))
         });
         let before: Vec<u8> = (0..length + 16).map(|i| 100 + (i % 100) as u8).collect();
         let (pool, [levels, layers], mut bytes) = (case.pool.clone(), sheet.clone(), before.clone());
         let answer = planner::collapse(input(&pool), &levels, &layers, x, &mut bytes[8..8 + length]);
-        assert_eq!(answer, expected.as_ref().map(|_| ()).map_err(|e| *e), "{pool:?} {x} {sheet:?}");
+        assert_eq!(answer, expected.as_ref().map(|(_, size)| *size).map_err(|e| *e), "{pool:?} {x} {sheet:?}");
+        let expected = expected.map(|(marks, _)| marks);
         let marks = expected.as_deref().unwrap_or(&before[8..8 + length]);
         assert_eq!(bytes, [&before[..8], marks, &before[8 + length..]].concat(), "{pool:?} {x} {sheet:?}");
         assert!(pool == *case.pool && [levels, layers] == *sheet);

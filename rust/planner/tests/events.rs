@@ -4,30 +4,38 @@
 
 mod shared;
 
-use planner::Record;
+use planner::{Record, Size};
 use pools::{Pool, Random};
 use reference::{Event, Plain, Session};
 use shared::sessions::{accepted, compare, compare_quick, compare_with, started, Call, Left};
-use shared::small_pools;
 use shared::steps::Met;
+use shared::{small_pools, table_size};
 use std::collections::BTreeMap;
 
 /// The kinds of events, those above 2 as 3, with the statuses that they get on tables that are not full.
 const STATUSES: [(u16, u16); 12] =
     [(0, 0), (0, 15), (0, 16), (1, 0), (1, 6), (1, 15), (1, 22), (2, 0), (2, 6), (2, 15), (2, 22), (3, 10)];
 
-/// Lists on pools of one size, with the naive working of all of them.
+/// Lists on pools of one size, with the naive working of all of them; of the sessions those that leave another number of edges and the same
+/// greatest degree, another greatest degree and as many edges, and another of both.
 #[derive(Default)]
 struct Compared {
     naive: Plain,
     sessions: [usize; 3],
     statuses: BTreeMap<(u16, u16), usize>,
+    resized: [usize; 3],
 }
 
 impl Compared {
     fn list(&mut self, pool: &Pool, events: &[Event], session: &Session) {
         let left = compare_with(pool, events, &self.naive, session);
         self.sessions[events.len()] += 1;
+        match left.resized() {
+            [false, false] => {}
+            [true, false] => self.resized[0] += 1,
+            [false, true] => self.resized[1] += 1,
+            [true, true] => self.resized[2] += 1,
+        }
         for (event, &status) in events.iter().zip(&left.record.status) {
             *self.statuses.entry((event.kind.min(3), status)).or_default() += 1;
         }
@@ -58,6 +66,11 @@ fn proper_events(pool: &Pool) -> Vec<Event> {
     pool.all_events().into_iter().filter(is_proper).collect()
 }
 
+/// Of the sessions of `all_small_pools`, by the number of vertices, those that leave a table of another size: in its edges alone, in its
+/// greatest degree alone, in both; and in a long run with 4 vertices. The figures were counted apart from the tests.
+const RESIZED: [[usize; 3]; 5] = [[0; 3], [0; 3], [0, 0, 656], [6_048, 0, 18_912], [69_888, 5_376, 80_640]];
+const LONG_RESIZED: [usize; 3] = [556_032, 21_504, 599_040];
+
 /// Every list of up to two events on all pools of up to 3 vertices; on those of 4 every list of one, and of two proper ones.
 #[test]
 fn all_small_pools() {
@@ -67,8 +80,10 @@ fn all_small_pools() {
         let two = if pool.size() < 4 || pools::long() { all.clone() } else { proper_events(&pool) };
         compared[pool.size()].lists(&pool, &all, &two);
     }
-    for (n, Compared { sessions, statuses, .. }) in compared.iter().enumerate() {
+    for (n, Compared { sessions, statuses, resized, .. }) in compared.iter().enumerate() {
         println!("pools of {n} vertices: {sessions:?} sessions of 0, 1 and 2 events, by kind and status {statuses:?}");
+        println!("{resized:?} of them change the number of edges alone, the greatest degree alone, and both");
+        assert_eq!(*resized, if n == 4 && pools::long() { LONG_RESIZED } else { RESIZED[n] });
         // (n + 1) * (2n + 3) + 1 events; with 4 vertices 16 are proper, 4 that anchor and 12 for 6 edges
         let (pools, one) = ([1, 2, 8, 64, 1024][n], [4, 11, 22, 37, 56][n]);
         let two = if n < 4 || pools::long() { one } else { 16 };
@@ -103,6 +118,9 @@ fn edges_of_five() {
 /// many of them it so moves the bare level. The figures were counted apart from the tests.
 const MOVES: [[usize; 3]; 2] = [[2_851, 6_882, 2_851], [2_776, 7_032, 2_776]];
 
+/// Of the same how many change the number of edges, which is each, and how many the greatest degree, counted so too.
+const TURNED: [usize; 2] = [6_344, 3_224];
+
 /// Each of them by the planner's own answers.
 #[test]
 fn moves() {
@@ -115,7 +133,7 @@ fn moves() {
     println!("each edge of all pools of up to 4 vertices added or dropped: {met:?}");
     // 1, 3 and 6 edges in 8, 64 and 1,024 pools, half of them there
     assert_eq!(met.statuses, [((1, 0), 3172), ((2, 0), 3172)].into());
-    assert_eq!([met.levels, met.bare], MOVES);
+    assert_eq!(([met.levels, met.bare], met.resized), (MOVES, TURNED));
 }
 
 /// A list, after every event, by the planner's own answers and against the naive working.
@@ -132,14 +150,17 @@ fn compare_upto(pool: &Pool, events: &[Event], met: &mut Met) -> Vec<Left> {
     upto
 }
 
-/// The list in two calls, the second on what the first leaves, ends like the whole list, but that positions are counted anew.
+/// The list in two calls, the second on what the first leaves, ends like the whole list, but that positions are counted anew, and the size
+/// is that of what the first leaves.
 fn compare_halves(pool: &Pool, events: &[Event], whole: &Left) {
     let (one, two) = events.split_at(events.len() / 2);
-    let mut end = accepted(&accepted(pool, one).pool(), two);
+    let half = accepted(pool, one).pool();
+    let mut end = accepted(&half, two);
     let behind = |numbers: &[u16]| numbers[one.len()..].to_vec();
     let [status, lifted, redone] = [&whole.record.status, &whole.record.lifted, &whole.record.redone].map(|numbers| behind(numbers));
     end.record.stamps.clone_from(&whole.record.stamps);
-    assert_eq!(end, Left { record: Record { status, lifted, redone, ..whole.record.clone() }, ..whole.clone() });
+    let record = Record { status, lifted, redone, ..whole.record.clone() };
+    assert_eq!(end, Left { size: table_size(&half).unwrap(), record, ..whole.clone() });
 }
 
 /// Random lists of 40 events.
@@ -155,7 +176,7 @@ fn random_lists() {
     }
     println!("{small} lists of 40 events on random pools to 16 vertices, {large} to 40, after every event: {met:?}");
     assert!(met.statuses.keys().copied().eq(STATUSES) && met.statuses.values().all(|&events| events > 50));
-    let counts = [met.signs, met.levels, met.bare].concat();
+    let counts = [&met.signs[..], &met.levels, &met.bare, &met.resized].concat();
     assert!(counts.iter().all(|&count| count > 50));
 }
 
@@ -278,25 +299,25 @@ fn small_examples() {
     }
 }
 
-/// Whatever the places past the links hold, an accepted call leaves 0 there, with no event, with none accepted and with some; a refused
-/// one leaves them alone.
+/// Whatever the places past the links hold, they do not count in the size, and an accepted call leaves 0 there, with no event, with none
+/// accepted and with some; a refused one leaves them alone.
 #[test]
 fn places_past_the_links() {
     let chain = Pool::of_edges(4, [(0, 1), (1, 2), (2, 3)], vec![0; 4]);
     let [none, refused, dropped] = [vec![], vec![Event::anchor(9)], vec![Event::drop_edge(0, 1), Event::drop_edge(2, 3)]];
     for rest in [1, 7, 65535] {
-        for (pool, events, used) in [
-            (&chain, &none, 6),
-            (&chain, &refused, 6),
-            (&chain, &dropped, 2),
-            (&Pool::of_edges(0, [], vec![]), &none, 0),
-            (&Pool::of_edges(0, [], vec![]), &refused, 0),
-            (&full(), &none, 16384),
+        for (pool, events, used, (edges, max_degree)) in [
+            (&chain, &none, 6, (3, 2)),
+            (&chain, &refused, 6, (3, 2)),
+            (&chain, &dropped, 2, (3, 2)),
+            (&Pool::of_edges(0, [], vec![]), &none, 0, (0, 0)),
+            (&Pool::of_edges(0, [], vec![]), &refused, 0, (0, 0)),
+            (&full(), &none, 16384, (8192, 128)),
         ] {
             let mut call = Call::new(pool, events);
             call.links[pool.links.len()..].fill(rest);
             let mut wrong = call.clone();
-            assert_eq!(call.make(), Ok(()));
+            assert_eq!(call.make(), Ok(Size { edges, max_degree }));
             assert_eq!((call.links.len(), *call.starts.last().unwrap()), (16384, used as u16));
             assert!(call.links[used..].iter().all(|&place| place == 0));
             wrong.given.push(0);
@@ -314,6 +335,11 @@ fn limits() {
     let chain = Pool::of_edges(1024, (0..1023).map(|v| (v, v + 1)), vec![0; 1024]);
     let left = compare_quick(&chain, &[Event::add_edge(1023, 0), Event::drop_edge(511, 512)]);
     assert_eq!((left.record.lifted, left.record.redone), (vec![0, 0], vec![1024, 1024]));
+    // a star loses two of its 1,023 edges, and another edge is added
+    let star = Pool::of_edges(1024, (1..1024).map(|v| (0, v)), vec![0; 1024]);
+    let left = compare_quick(&star, &[Event::drop_edge(0, 1), Event::drop_edge(1023, 0), Event::add_edge(1, 2), Event::anchor(0)]);
+    let after = Ok(Size { edges: 1022, max_degree: 1021 });
+    assert_eq!((left.size, table_size(&left.pool())), (Size { edges: 1023, max_degree: 1023 }, after));
     // 4,096 events
     let mut random = Random(3316624790);
     let pool = Pool::random(&mut random, 40, 90);

@@ -5,34 +5,34 @@ mod source;
 use std::path::Path;
 use std::process::{Command, Output};
 
-/// What the program prints: of an answer the number and its values; under it what it filled.
+/// What the program prints: of an answer the number, its values and the size of the table; under it what it filled.
 const PRINTED: &str = "\
-check: 0 0 0
-check of five links: 4 4 0
-work: 0 0 0
+check: 0 0 0, edges 3, max_degree 2
+check of five links: 4 4 0, edges 0, max_degree 0
+work: 0 0 0, edges 3, max_degree 2
   levels 65535 1 1 1
   layers 0 3 2 1
   components 65535 1 1 1
-list_components: 0 1 0
+list_components: 0 1 0, edges 3, max_degree 2
   level, size, number 1 3 1
-followers: 0 2 2
+followers: 0 2 2, edges 3, max_degree 2
   marks 0 2 2 0
-collapse: 0 0 0
+collapse: 0 0 0, edges 3, max_degree 2
   marks 0 0 0 1
-check_sheet: 0 0 0
-check_sheet with a layer of 9: 21 1 0
-run: 0 0 0
-  starts 0 2 3 5 6
-  links 1 2 0 0 3 2
+check_sheet: 0 0 0, edges 3, max_degree 2
+check_sheet with a layer of 9: 21 1 0, edges 0, max_degree 0
+run: 0 0 0, edges 3, max_degree 2
+  starts 0 3 4 6 8
+  links 1 2 3 0 0 3 0 2
   anchored 1 0 0 1
   levels 65535 1 2 65535
   layers 0 1 1 0
   components 65535 1 2 65535
-  yields -32768 0 -1 -32768
-  stamps 0 3 3 1
-  status 0 0 0 22 15
-  lifted 2 0 0 0 0
-  redone 2 2 2 0 0
+  yields -32768 0 0 -32768
+  stamps 0 3 6 1
+  status 0 0 0 22 15 0
+  lifted 2 0 0 0 0 0
+  redone 2 2 2 0 0 1
 text_to_sheet: 12 0
 text_to_sheet: 0 50
 (round 01 (retain 0000) (marks ..) (redone 0000))

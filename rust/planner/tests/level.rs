@@ -3,19 +3,22 @@
 
 mod shared;
 
-use planner::{Found, Refusal};
+use planner::{Found, Listed, Refusal, Size};
 use pools::{Pool, Random};
-use reference::Anchoring;
+use reference::{Anchoring, Search};
 use shared::cases::{Case, Defined, WRONG_ENTRIES};
-use shared::{broken, held, input, page_examples, small_pools, wrong_lengths, DAMAGES};
+use shared::{broken, held, input, page_examples, small_pools, table_size, wrong_lengths, DAMAGES};
 use std::collections::{BTreeMap, BTreeSet};
 
-/// How many calls of each operation gave each number, 0 where it accepted; of the sheets refused with each number, how many have a place
-/// other than 0, and how many a level above the defined one; how many component lists have two components of one level, and how many
-/// one before a lower number because of its level; how many vertices the accepted searches marked.
+/// How many calls of each operation gave each number, 0 where it accepted; how many tables have so many edges, and how many such a greatest
+/// degree; of the sheets refused with each number, how many have a place other than 0, and how many a level above the defined one; how many
+/// component lists have two components of one level, and how many one before a lower number because of its level; how many vertices the
+/// accepted searches marked.
 #[derive(Default, PartialEq, Debug)]
 struct Compared {
     answers: BTreeMap<(&'static str, u64), usize>,
+    edges: BTreeMap<usize, usize>,
+    degrees: BTreeMap<usize, usize>,
     sheets_placed: BTreeMap<u64, usize>,
     overstating: BTreeMap<u64, usize>,
     levels_tie: usize,
@@ -38,12 +41,13 @@ impl Compared {
     }
 
     fn check(&mut self, case: &Case) {
-        let expected = match case.defined {
-            Err(e) if e.number < 9 => Err(e),
-            _ => Ok(()),
-        };
-        assert_eq!(planner::check(&case.pool.starts, &case.pool.links), expected, "{:?}", case.pool);
-        self.note("check", &expected);
+        let answer = planner::check(&case.pool.starts, &case.pool.links);
+        assert_eq!(answer, table_size(case.pool), "{:?}", case.pool);
+        self.note("check", &answer);
+        if let Ok(Size { edges, max_degree }) = answer {
+            *self.edges.entry(edges).or_default() += 1;
+            *self.degrees.entry(max_degree).or_default() += 1;
+        }
     }
 
     fn work(&mut self, case: &Case, lengths: [usize; 3]) {
@@ -51,8 +55,9 @@ impl Compared {
         let mut lent = before.clone();
         let [levels, layers, components] = &mut lent;
         let answer = planner::work(input(case.pool), levels, layers, components);
-        let expected = case.lent(&lengths).map(|Defined { at, .. }| [&at.sheet.level, &at.sheet.layer, &at.sheet.component]);
-        assert_eq!(answer, expected.map(|_| ()), "{:?} {lengths:?}", case.pool);
+        let defined = case.lent(&lengths);
+        let expected = defined.map(|Defined { at, .. }| [&at.sheet.level, &at.sheet.layer, &at.sheet.component]);
+        assert_eq!(answer, defined.map(|defined| defined.size), "{:?} {lengths:?}", case.pool);
         assert_eq!(lent.each_ref(), expected.unwrap_or(before.each_ref()), "{:?} {lengths:?}", case.pool);
         self.note("work", &answer);
     }
@@ -62,22 +67,23 @@ impl Compared {
         let mut lent = before.clone();
         let [levels, sizes, numbers] = &mut lent;
         let answer = planner::list_components(input(case.pool), levels, sizes, numbers);
-        let list = case.lent(&lengths).map(|defined| defined.at.sheet.components());
+        let defined = case.lent(&lengths);
+        let entries = defined.map_or(vec![], |defined| defined.at.sheet.components());
         let mut expected = before;
-        for (i, &(level, size, number)) in list.iter().flatten().enumerate() {
+        for (i, &(level, size, number)) in entries.iter().enumerate() {
             (expected[0][i], expected[1][i], expected[2][i]) = (level, size, number);
         }
-        assert_eq!(answer, list.as_ref().map(Vec::len).map_err(|e| *e), "{:?} {lengths:?}", case.pool);
+        let told = defined.map(|defined| Listed { count: entries.len(), size: defined.size });
+        assert_eq!(answer, told, "{:?} {lengths:?}", case.pool);
         assert_eq!(lent, expected, "{:?} {lengths:?}", case.pool);
         self.note("list_components", &answer);
-        let entries = list.unwrap_or_default();
         self.levels_tie += entries.windows(2).any(|pair| pair[0].0 == pair[1].0) as usize;
         self.levels_decide += entries.windows(2).any(|pair| pair[0].2 > pair[1].2) as usize;
     }
 
     /// The answer is that of the naive tests; and of a sound pool the defined sheet alone is accepted, and no sheet that is accepted, or
     /// refused with 20 or 21, has a level above the defined one.
-    fn check_sheet(&mut self, case: &Case, sheet: &[Vec<u16>; 2]) -> Result<(), Refusal> {
+    fn check_sheet(&mut self, case: &Case, sheet: &[Vec<u16>; 2]) -> Result<Size, Refusal> {
         let [levels, layers] = sheet;
         let answer = planner::check_sheet(input(case.pool), levels, layers);
         assert_eq!(answer, case.checked(sheet), "{:?} {sheet:?}", case.pool);
@@ -96,23 +102,23 @@ impl Compared {
     }
 
     /// The search from x, with room for so many marks, on a sheet whose check gives that answer.
-    fn followers(&mut self, case: &Case, [levels, layers]: &[Vec<u16>; 2], checked: Result<(), Refusal>, x: usize, length: usize) {
+    fn followers(&mut self, case: &Case, [levels, layers]: &[Vec<u16>; 2], checked: Result<Size, Refusal>, x: usize, length: usize) {
         let expected = case.lent(&[length]).and_then(|defined| {
             checked?;
             match case.pool.anchored.get(x) {
                 None => Err(Refusal { number: 15, place: x as u64 }),
                 Some(1) => Err(Refusal { number: 16, place: x as u64 }),
-                Some(_) => Ok((defined.working.search)(case.pool, defined, x)),
+                Some(_) => Ok(((defined.working.search)(case.pool, defined, x), defined.size)),
             }
         });
         let before: Vec<u8> = (0..length).map(|i| 100 + i as u8 % 100).collect();
         let mut marks = before.clone();
         let answer = planner::followers(input(case.pool), levels, layers, x, &mut marks);
-        let counts = expected.as_ref().map(|found| Found { lifted: found.followers, reached: found.candidates }).map_err(|e| *e);
-        assert_eq!(answer, counts, "{:?} {x} {levels:?} {layers:?}", case.pool);
-        assert_eq!(marks, expected.map_or(before, |found| found.marks), "{:?} {x}", case.pool);
+        let counts = |(found, size): &(Search, Size)| Found { lifted: found.followers, reached: found.candidates, size: *size };
+        assert_eq!(answer, expected.as_ref().map(counts).map_err(|e| *e), "{:?} {x} {levels:?} {layers:?}", case.pool);
+        assert_eq!(marks, expected.map_or(before, |(found, _)| found.marks), "{:?} {x}", case.pool);
         self.note("followers", &answer);
-        if let Ok(Found { lifted, reached }) = answer {
+        if let Ok(Found { lifted, reached, .. }) = answer {
             self.lifted += lifted;
             self.reached += reached;
         }
@@ -141,9 +147,8 @@ impl Compared {
                 self.list_components(case, lengths);
             }
             // 12 comes before 13
-            let short = Err(Refusal { number: 13, place: 0 });
-            for (sheet, checked) in [(case.sheet(), Ok(())), ([vec![], vec![0]], short)] {
-                self.followers(case, &sheet, checked, 0, length);
+            for sheet in [case.sheet(), [vec![], vec![0]]] {
+                self.followers(case, &sheet, case.checked(&sheet), 0, length);
             }
         }
         for sheet in case.wrong_sheets() {
@@ -164,6 +169,11 @@ impl Compared {
         self.wrong(case);
     }
 }
+
+/// Of all graphs of up to 5 vertices with every anchor set: how many have 0, 1, 2 and so on up to 10 edges, and how many a greatest degree
+/// of 0 to 4. The figures were counted apart from this test.
+const EDGES: [usize; 11] = [63, 444, 1_704, 4_168, 6_960, 8_160, 6_736, 3_840, 1_440, 320, 32];
+const DEGREES: [usize; 5] = [63, 972, 7_792, 16_848, 8_192];
 
 /// Of the defined sheets of all graphs of up to 5 vertices, with one number wrong in each way: how many overstate; all are refused with 19.
 /// The figure was counted apart from this test.
@@ -189,6 +199,7 @@ fn all_small_graphs() {
     // a search from each vertex, free or anchored, and one from n
     let searches = [0, 15, 16].map(|number| ("followers", number)).into_iter().zip([free, pools, free]);
     assert_eq!(right.answers, operations.into_iter().chain(searches).collect());
+    assert!(right.edges.values().copied().eq(EDGES) && right.degrees.values().copied().eq(DEGREES));
     assert!(0 < right.lifted && right.lifted < right.reached);
     assert!(0 < right.levels_tie && 0 < right.levels_decide);
 
@@ -283,26 +294,27 @@ fn level_sheet_page() {
     assert!([0, 13, 14, 19, 20, 21].into_iter().all(|number| compared.met(number)));
 }
 
-/// Component lists in slices of n places that held 7: the levels, the sizes and the numbers.
+/// Component lists in slices of n places that held 7: the levels, the sizes and the numbers; and the edges and the greatest degree.
 #[test]
 fn component_lists() {
     let cases = [
         // two of equal level
-        (Pool::of_edges(4, [(0, 2), (1, 3)], vec![0; 4]), [vec![1, 1, 7, 7], vec![2, 2, 7, 7], vec![0, 1, 7, 7]]),
+        (Pool::of_edges(4, [(0, 2), (1, 3)], vec![0; 4]), [vec![1, 1, 7, 7], vec![2, 2, 7, 7], vec![0, 1, 7, 7]], (2, 1)),
         // a higher number first because of its level
-        (Pool::of_edges(4, [(1, 2)], vec![0; 4]), [vec![1, 0, 0, 7], vec![2, 1, 1, 7], vec![1, 0, 3, 7]]),
+        (Pool::of_edges(4, [(1, 2)], vec![0; 4]), [vec![1, 0, 0, 7], vec![2, 1, 1, 7], vec![1, 0, 3, 7]], (1, 1)),
         // one anchored, three levels
-        (Pool::of_edges(6, [(1, 2), (3, 4), (3, 5), (4, 5)], vec![0, 0, 1, 0, 0, 0]), [vec![2, 1, 0, 7, 7, 7], vec![3, 1, 1, 7, 7, 7], vec![3, 1, 0, 7, 7, 7]]),
+        (Pool::of_edges(6, [(1, 2), (3, 4), (3, 5), (4, 5)], vec![0, 0, 1, 0, 0, 0]), [vec![2, 1, 0, 7, 7, 7], vec![3, 1, 1, 7, 7, 7], vec![3, 1, 0, 7, 7, 7]], (4, 2)),
         // all anchored
-        (Pool::of_edges(4, [(0, 1), (1, 2), (2, 3)], vec![1; 4]), [vec![7; 4], vec![7; 4], vec![7; 4]]),
+        (Pool::of_edges(4, [(0, 1), (1, 2), (2, 3)], vec![1; 4]), [vec![7; 4], vec![7; 4], vec![7; 4]], (3, 2)),
         // no vertices
-        (Pool::of_edges(0, [], vec![]), [vec![], vec![], vec![]]),
+        (Pool::of_edges(0, [], vec![]), [vec![], vec![], vec![]], (0, 0)),
     ];
-    for (pool, expected) in cases {
+    for (pool, expected, (edges, max_degree)) in cases {
         let mut lent = [0; 3].map(|_| vec![7u16; pool.size()]);
         let [levels, sizes, numbers] = &mut lent;
         let count = expected[2].iter().filter(|&&number| number != 7).count();
-        assert_eq!(planner::list_components(input(&pool), levels, sizes, numbers), Ok(count), "{pool:?}");
+        let told = Listed { count, size: Size { edges, max_degree } };
+        assert_eq!(planner::list_components(input(&pool), levels, sizes, numbers), Ok(told), "{pool:?}");
         assert_eq!(lent, expected, "{pool:?}");
     }
 }

@@ -2,7 +2,7 @@
 
 mod shared;
 
-use planner::{Record, Refusal};
+use planner::{Record, Refusal, Size};
 use pools::{Pool, Random};
 use reference::Event;
 use shared::broken;
@@ -96,7 +96,8 @@ fn refused_with(damages: &[&Damage], refusal: Refusal) {
 
 #[test]
 fn each_and_two_at_once() {
-    assert_eq!((sound().admitted(), sound().make()), (Ok(()), Ok(())));
+    let size = Ok(Size { edges: 12, max_degree: 2 });
+    assert_eq!((sound().admitted(), sound().make()), (size, size));
     let (damages, mut single, mut pairs) = (damages(), 0, 0);
     for (i, group) in damages.iter().enumerate() {
         for first in group {
@@ -174,12 +175,13 @@ fn all_small_tables() {
 #[test]
 fn limits() {
     let single = Pool::of_edges(1024, [], vec![0; 1024]);
-    assert_eq!(Call::new(&single, &[]).make(), Ok(()));
+    let none = Ok(Size { edges: 0, max_degree: 0 });
+    assert_eq!(Call::new(&single, &[]).make(), none);
     let more = Pool::of_edges(1025, [], vec![0; 1025]);
     Call::new(&more, &[]).refused(2, 0);
     let both = (0..64).flat_map(|u| (64..192).map(move |v| (u, v)));
     let full = Call::new(&Pool::of_edges(192, both, vec![0; 192]), &[]);
-    assert_eq!(full.clone().make(), Ok(()));
+    assert_eq!(full.clone().make(), Ok(Size { edges: 8192, max_degree: 128 }));
     let mut longer = full.clone();
     longer.starts[192] = 16386;
     longer.refused(3, 0);
@@ -187,7 +189,7 @@ fn limits() {
     shorter.links.truncate(16382);
     shorter.refused(12, 0);
     let empty = Pool::of_edges(0, [], vec![]);
-    assert_eq!(Call::new(&empty, &vec![Event::anchor(0); 4096]).make(), Ok(()));
+    assert_eq!(Call::new(&empty, &vec![Event::anchor(0); 4096]).make(), none);
     Call::new(&empty, &vec![Event::anchor(0); 4097]).refused(11, 0);
     for places in [0, 16383, 16385] {
         let mut call = Call::new(&empty, &[]);

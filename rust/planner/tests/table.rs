@@ -2,29 +2,30 @@
 
 mod shared;
 
-use planner::Refusal;
+use planner::{Refusal, Size};
 use pools::{Pool, Random};
-use shared::refusal;
+use shared::table_size;
 use std::collections::BTreeSet;
 
-fn compare(pool: &Pool) -> Result<(), Refusal> {
+fn compare(pool: &Pool) -> Result<Size, Refusal> {
     let answer = planner::check(&pool.starts, &pool.links);
-    assert_eq!(answer, reference::check_table(&pool.starts, &pool.links).map(|_| ()).map_err(refusal), "{pool:?}");
+    assert_eq!(answer, table_size(pool), "{pool:?}");
     answer
 }
 
 #[test]
 fn random_tables() {
-    let (mut seen, mut random) = (BTreeSet::new(), Random(88172645463325252));
+    let (mut seen, mut sizes, mut random) = (BTreeSet::new(), BTreeSet::new(), Random(88172645463325252));
     let count = if pools::long() { 2000000 } else { 200000 };
     for _ in 0..count {
         let pool = Pool::random_small(&mut random, 12);
-        assert_eq!(compare(&pool), Ok(()));
+        let Size { edges, max_degree } = compare(&pool).unwrap();
+        sizes.insert((edges, max_degree));
         if let Err(e) = compare(&pool.damaged(&mut random)) {
             seen.insert(e.number);
         }
     }
-    println!("{count} random tables, each also damaged; refusals {seen:?}");
+    println!("{count} random tables of {} sizes, each also damaged; refusals {seen:?}", sizes.len());
     assert!([1, 4, 5, 6, 7, 8].iter().all(|number| seen.contains(number)));
 }
 
@@ -53,13 +54,13 @@ fn refusals_and_limits() {
             assert_eq!(compare(&pool), Err(e), "{pool:?}");
         }
     }
-    assert_eq!(planner::check(&[0; 1025], &[]), Ok(()));
+    assert_eq!(planner::check(&[0; 1025], &[]), Ok(Size { edges: 0, max_degree: 0 }));
     assert_eq!(planner::check(&[0; 1026], &[]), Err(Refusal { number: 2, place: 0 }));
-    assert_eq!(planner::check(&[0], &[]), Ok(()));
+    assert_eq!(planner::check(&[0], &[]), Ok(Size { edges: 0, max_degree: 0 }));
     let both = (0..64).flat_map(|u| (64..192).map(move |v| (u, v)));
     let full = Pool::of_edges(192, both.clone(), vec![]);
     assert_eq!(full.links.len(), 16384);
-    assert_eq!(compare(&full), Ok(()));
+    assert_eq!(compare(&full), Ok(Size { edges: 8192, max_degree: 128 }));
     let more = Pool::of_edges(192, both.chain([(0, 1)]), vec![]);
     assert_eq!(more.links.len(), 16386);
     assert_eq!(compare(&more), Err(Refusal { number: 3, place: 0 }));

@@ -64,6 +64,21 @@ pub fn check_table(starts: &[u16], links: &[u16]) -> Result<Graph, Refusal> {
     Ok(Graph { neighbors: (0..n).map(|v| list(v).iter().map(|&u| u as usize).collect()).collect() })
 }
 
+/// How many edges there are, and the most neighbors that a vertex has.
+#[derive(Clone, Copy, PartialEq, Eq, Hash, PartialOrd, Ord, Debug)]
+pub struct Size {
+    pub edges: usize,
+    pub max_degree: usize,
+}
+
+/// Every two vertices that are each other's neighbors are one edge; 0 is the most where there are no vertices.
+pub fn size(graph: &Graph) -> Size {
+    let n = graph.size();
+    let lists = |u: usize, v: usize| graph.neighbors[u].contains(&v);
+    let edges = (0..n).map(|v| (0..v).filter(|&u| lists(u, v) && lists(v, u)).count()).sum();
+    Size { edges, max_degree: (0..n).map(|v| graph.neighbors[v].len()).max().unwrap_or(0) }
+}
+
 /// The largest set in which each vertex not anchored has at least k neighbors.
 fn core(graph: &Graph, anchored: &[bool], k: usize) -> Vec<bool> {
     let mut present = vec![true; graph.size()];

@@ -1,7 +1,7 @@
-//! Sessions of events: "A session" of document 01, as cards 4 and 6 of document 02 have it. After each event everything is worked out
+//! Sessions of events: "A session" of document 01, as cards 4, 6 and 7 of document 02 have it. After each event everything is worked out
 //! afresh for the table as it then stands.
 
-use crate::{bare_levels, check_table, count, followers, net_yield, Anchoring, Graph, Refusal, Sheet};
+use crate::{bare_levels, check_table, count, followers, net_yield, size, Anchoring, Graph, Refusal, Sheet, Size};
 use std::cell::OnceCell;
 use std::collections::{BTreeSet, HashMap};
 
@@ -196,9 +196,11 @@ impl State {
     }
 }
 
-/// What a session leaves: its record, three numbers for each event, and the table; the places past its links hold 0.
+/// What a session answers, the size of the table before any event; and what it leaves: its record, three numbers for each event, and the
+/// table, whose places past its links hold 0.
 #[derive(Clone, PartialEq, Debug)]
 pub struct Record {
+    pub size: Size,
     pub anchored: Vec<u8>,
     pub sheet: Sheet,
     pub yields: Vec<i16>,
@@ -220,6 +222,7 @@ struct Step {
 /// A plain session on its way through a list of events.
 #[derive(Clone)]
 pub struct Session {
+    size: Size,
     state: usize,
     stamps: Vec<u16>,
     rows: Vec<[u16; 3]>,
@@ -271,7 +274,8 @@ impl Plain {
     }
 
     pub fn start(&mut self, graph: &Graph, anchored: &[bool]) -> Session {
-        Session { state: self.state(graph.clone(), anchored.to_vec()), stamps: vec![0; graph.size()], rows: vec![] }
+        let state = self.state(graph.clone(), anchored.to_vec());
+        Session { size: size(graph), state, stamps: vec![0; graph.size()], rows: vec![] }
     }
 
     /// The session after one more event.
@@ -295,6 +299,7 @@ impl Plain {
         }
         let column = |i: usize| session.rows.iter().map(|row| row[i]).collect();
         Record {
+            size: session.size,
             anchored: state.at.anchored.iter().map(|&b| b as u8).collect(),
             sheet: state.at.sheet.clone(),
             yields: state.yields().to_vec(),

@@ -18,6 +18,7 @@ fn compare_session(pool: &Pool, events: &[Event]) -> Record {
 fn compare(pool: &Pool, rounds: usize) {
     let (graph, set) = reference::admit(&pool.starts, &pool.links, &pool.anchored).unwrap();
     let plain = plain(pool);
+    assert_eq!(quick::size(plain), reference::size(&graph), "{pool:?}");
     let at = reference::Anchoring::new(&graph, &set);
     let sheet = quick::sheet(plain, &set);
     assert_eq!(sheet, at.sheet, "{pool:?}");

@@ -1,7 +1,10 @@
-//! The roster: from a text to an answer sheet, or to a refusal in plain words.
+//! The roster: from a text to an answer sheet, or to a refusal in plain words; and the size of an accepted text's pool.
 
-use planner::Refusal;
+mod table;
+
+use planner::{Refusal, Size};
 use std::fmt;
+use table::Table;
 
 /// The most a text may have; one byte more is refused.
 pub const LONGEST_TEXT: usize = 65536;
@@ -25,6 +28,18 @@ pub fn answer(text: &[u8]) -> Answer {
         }
         Err(refusal) => Answer::Refused(refusal),
     }
+}
+
+/// The size of the pool of a text that the planner has accepted. Its call for texts does not answer it, so the text's table is handed to
+/// the check of a table.
+pub fn size_of_accepted(text: &[u8]) -> Size {
+    let Table { starts, links } = Table::of_accepted(text);
+    planner::check(&starts, &links).expect("the table of an accepted text is sound")
+}
+
+/// The size of a pool, as a line.
+pub fn told_of_size(Size { edges, max_degree }: Size) -> String {
+    format!("Pairs: {edges}. Most partners of one rider: {max_degree}.")
 }
 
 /// A sheet as it is; a refusal as one sentence.
@@ -73,7 +88,9 @@ mod tests {
         for (number, place, words) in sentences {
             assert_eq!(say(number, place), format!("Refused, number {number}, place {place}: {words}."));
         }
+        let size = Size { edges: 5000, max_degree: 31 };
         assert_eq!(Answer::Sheet(b"(round 01".to_vec()).to_string(), "(round 01");
+        assert_eq!(told_of_size(size), "Pairs: 5000. Most partners of one rider: 31.");
         assert_eq!(LONGEST_SHEET, 64320);
     }
 }

@@ -1,6 +1,6 @@
-//! roster [FILE]: the answer sheet of a text, or its refusal in words; HELP says how it is called.
+//! roster [FILE]: the answer sheet of a text and the size of its pool, or its refusal in words; HELP says how it is called.
 
-use roster::{answer, Answer, LONGEST_TEXT};
+use roster::{answer, size_of_accepted, told_of_size, Answer, LONGEST_TEXT};
 use std::ffi::OsString;
 use std::fmt::Display;
 use std::fs::File;
@@ -12,8 +12,9 @@ use std::sync::atomic::{AtomicBool, Ordering::Relaxed};
 const HELP: &str = "\
 Usage: roster [FILE]
 
-Reads a text, a pool of riders and a number of rounds, and prints its answer sheet; a refusal is told in words on standard error. The
-text is FILE, or standard input without FILE and for FILE -. docs/FORMAT.md describes texts, sheets and refusals.
+Reads a text, a pool of riders and a number of rounds, and prints its answer sheet; how many pairs there are and the most partners that
+one rider has are told on standard error, and so is a refusal, in words. The text is FILE, or standard input without FILE and for FILE -.
+docs/FORMAT.md describes texts, sheets and refusals.
 
 Exit status: 0 the sheet was printed; 1 the text is refused; 2 a wrong call, or a file that cannot be read or written.
 ";
@@ -83,6 +84,7 @@ fn run(words: &[OsString]) -> Result<u8, String> {
     match answer(&text) {
         Answer::Sheet(sheet) => {
             print(&sheet)?;
+            tell(told_of_size(size_of_accepted(&text)));
             Ok(0)
         }
         refused => {

@@ -1,8 +1,8 @@
 //! The roster on the folder examples/, as a library and as a program.
 
-use planner::Refusal;
+use planner::{Refusal, Size};
 use pools::Example;
-use roster::{answer, Answer};
+use roster::{answer, size_of_accepted, Answer};
 use std::io::Write;
 use std::process::{Command, Output, Stdio};
 
@@ -23,25 +23,39 @@ fn by_input(text: &[u8]) -> Output {
     child.wait_with_output().unwrap()
 }
 
+/// What is told on standard error of a text's size, which is counted naively.
+fn told_of_size(text: &[u8]) -> String {
+    let Size { edges, max_degree } = size_of_accepted(text);
+    let counted = reference::size(&reference::admit_text(text, 64320).ok().unwrap().graph);
+    assert_eq!((edges, max_degree), (counted.edges, counted.max_degree));
+    format!("Pairs: {edges}. Most partners of one rider: {max_degree}.\n")
+}
+
 #[test]
 fn examples() {
     for example in pools::examples() {
-        let told = match answer(&example.text) {
-            Answer::Sheet(sheet) => Ok(sheet),
-            Answer::Refused(Refusal { number, place }) => Err((number, place)),
+        let (told, said) = match answer(&example.text) {
+            Answer::Sheet(sheet) => (Ok(sheet), told_of_size(&example.text)),
+            refused @ Answer::Refused(Refusal { number, place }) => (Err((number, place)), format!("{refused}\n")),
         };
-        let refused = told.is_err();
-        assert!(pools::printed(told) == example.printed, "{}", example.name);
+        let printed = told.clone().unwrap_or_default();
         for output in [by_file(&example), by_input(&example.text)] {
-            assert_eq!(output.status.code(), Some(refused as i32));
-            if refused {
-                assert!(output.stdout.is_empty());
-                assert_eq!(String::from_utf8(output.stderr).unwrap(), format!("{}\n", answer(&example.text)));
-            } else {
-                assert!(output.stdout == example.printed && output.stderr.is_empty());
-            }
+            assert_eq!(output.status.code(), Some(told.is_err() as i32));
+            assert!(output.stdout == printed, "{}", example.name);
+            assert_eq!(String::from_utf8(output.stderr).unwrap(), said);
         }
+        assert!(pools::printed(told) == example.printed, "{}", example.name);
     }
+}
+
+/// docs/FORMAT.md has the line that is told of the chain.
+#[test]
+fn format_page() {
+    let page = std::fs::read_to_string(pools::examples_folder().join("../docs/FORMAT.md")).unwrap();
+    let chain = pools::examples().into_iter().find(|example| example.name == "chain").unwrap();
+    let line = "Pairs: 3. Most partners of one rider: 2.";
+    assert_eq!(by_file(&chain).stderr, format!("{line}\n").into_bytes());
+    assert!(page.contains(&format!("`{line}`")));
 }
 
 #[test]

@@ -38,13 +38,21 @@ fn failures() {
     assert_eq!(run("roster 'no such' 2>/dev/full").0, 2);
 }
 
+/// What is told of the chain's size.
+const SIZE: &str = "Pairs: 3. Most partners of one rider: 2.\n";
+
 #[test]
 fn streams_that_are_not_used() {
     let (status, chain, _) = run("cat chain.sheet");
     assert_eq!(status, 0);
-    for line in ["roster chain.txt <&-", "roster - <chain.txt", "roster <chain.txt 2>&-"] {
+    for line in ["roster chain.txt <&-", "roster - <chain.txt"] {
+        assert_eq!(run(line), (0, chain.clone(), SIZE.into()), "{line}");
+    }
+    for line in ["roster <chain.txt 2>&-", "roster chain.txt 2>/dev/full"] {
         assert_eq!(run(line), (0, chain.clone(), String::new()), "{line}");
     }
+    // the size comes behind the sheet
+    assert_eq!(run("roster chain.txt 2>&1"), (0, chain + SIZE, String::new()));
     let refused = run("roster bad_line.txt");
     assert_eq!((refused.0, refused.1.is_empty()), (1, true));
     for line in ["roster bad_line.txt >&-", "roster bad_line.txt >/dev/full"] {
@@ -65,5 +73,5 @@ fn help() {
 fn terminal() {
     let (status, screen, _) = run("script -qec \"'$0'\" /dev/null <chain.txt");
     assert_eq!(status, 0);
-    assert!(screen.contains("roster: waiting for a text; Ctrl-D"), "{screen}");
+    assert!(screen.contains("roster: waiting for a text; Ctrl-D") && screen.contains(SIZE.trim_end()), "{screen}");
 }

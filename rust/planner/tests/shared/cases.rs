@@ -1,7 +1,7 @@
 //! A pool with what is defined for it, worked out once for all calls; sheets other than the defined one.
 
-use super::{anchor_set, plain, refusal, wrong_lengths};
-use planner::Refusal;
+use super::{anchor_set, plain, refusal, size, wrong_lengths};
+use planner::{Refusal, Size};
 use pools::{Pool, Random};
 use reference::{quick, Anchoring, Graph, Search, Sheet};
 use std::collections::BTreeSet;
@@ -29,9 +29,10 @@ static QUICK: Working = Working {
     collapse: |pool, Defined { at, .. }, x| quick::collapse(plain(pool), &at.anchored, x),
 };
 
-/// What is defined for a sound pool; the sheet is worked out once for all calls.
+/// What is defined for a sound pool; the sheet is worked out once for all calls, and the table's size counted.
 pub struct Defined {
     pub graph: Graph,
+    pub size: Size,
     pub at: Anchoring,
     pub working: &'static Working,
 }
@@ -46,8 +47,8 @@ impl Case<'_> {
     fn new<'a>(pool: &'a Pool, working: &'static Working) -> Case<'a> {
         let admitted = reference::admit(&pool.starts, &pool.links, &pool.anchored).map_err(refusal);
         let defined = admitted.map(|(graph, anchored)| {
-            let sheet = (working.sheet)(pool);
-            Defined { graph, at: Anchoring { anchored, sheet }, working }
+            let (size, sheet) = (size(reference::size(&graph)), (working.sheet)(pool));
+            Defined { graph, size, at: Anchoring { anchored, sheet }, working }
         });
         Case { pool, defined }
     }
@@ -70,10 +71,10 @@ impl Case<'_> {
         Ok(defined)
     }
 
-    /// What the naive tests of a sheet answer.
-    pub fn checked(&self, [levels, layers]: &[Vec<u16>; 2]) -> Result<(), Refusal> {
-        let Defined { graph, at, .. } = self.lent(&[])?;
-        reference::check_sheet(graph, &at.anchored, levels, layers).map_err(refusal)
+    /// What the naive tests of a sheet answer: the table's size, or why it is refused.
+    pub fn checked(&self, [levels, layers]: &[Vec<u16>; 2]) -> Result<Size, Refusal> {
+        let Defined { graph, size, at, .. } = self.lent(&[])?;
+        reference::check_sheet(graph, &at.anchored, levels, layers).map(|_| *size).map_err(refusal)
     }
 
     /// The defined levels and layers, or as many numbers where nothing is defined.

@@ -5,7 +5,7 @@ pub mod cases;
 pub mod sessions;
 pub mod steps;
 
-use planner::{Input, Refusal};
+use planner::{Input, Refusal, Size};
 use pools::Pool;
 use reference::quick;
 use std::collections::BTreeSet;
@@ -16,6 +16,15 @@ pub fn input(pool: &Pool) -> Input<'_> {
 
 pub fn refusal((number, place): reference::Refusal) -> Refusal {
     Refusal { number: number as u64, place }
+}
+
+pub fn size(reference::Size { edges, max_degree }: reference::Size) -> Size {
+    Size { edges, max_degree }
+}
+
+/// What the naive check of the table answers: its size, or why it is refused.
+pub fn table_size(pool: &Pool) -> Result<Size, Refusal> {
+    reference::check_table(&pool.starts, &pool.links).map(|graph| size(reference::size(&graph))).map_err(refusal)
 }
 
 /// A slice's contents that no answer gives by chance.

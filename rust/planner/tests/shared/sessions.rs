@@ -1,7 +1,7 @@
 //! Sessions: all that a call is lent and handed, what it leaves, and what is expected of that.
 
-use super::{anchor_set, held, input, plain, refusal, wrong_lengths};
-use planner::{Events, Record, Refusal, Table, LINK_PLACES};
+use super::{anchor_set, held, input, plain, refusal, size, table_size, wrong_lengths};
+use planner::{Events, Record, Refusal, Size, Table, LINK_PLACES};
 use pools::Pool;
 use reference::{quick, Event, Plain, Session};
 
@@ -42,18 +42,18 @@ impl Call {
         Call { starts, links, given, kinds, firsts, seconds, record: room(pool.size(), events.len()) }
     }
 
-    pub fn make(&mut self) -> Result<(), Refusal> {
+    pub fn make(&mut self) -> Result<Size, Refusal> {
         let Call { starts, links, given, kinds, firsts, seconds, record } = self;
         planner::run(Table { starts, links }, given, Events { kinds, firsts, seconds }, record)
     }
 
-    /// What the naive tests of the call answer.
-    pub fn admitted(&self) -> Result<(), Refusal> {
+    /// What the naive tests of the call answer: the size of its table, or why it is refused.
+    pub fn admitted(&self) -> Result<Size, Refusal> {
         let Call { starts, links, given, kinds, firsts, seconds, record: r } = self;
         let for_vertices = [r.anchored.len(), r.levels.len(), r.layers.len(), r.components.len(), r.yields.len(), r.stamps.len()];
         let for_events = [r.status.len(), r.lifted.len(), r.redone.len()];
         let call = reference::Call { starts, links, given, kinds, firsts, seconds, for_vertices, for_events };
-        reference::admit_session(&call).map(|_| ()).map_err(refusal)
+        reference::admit_session(&call).map(|(graph, ..)| size(reference::size(&graph))).map_err(refusal)
     }
 
     /// A call that must be refused and leave alone all that it is lent.
@@ -102,9 +102,11 @@ pub fn wrong_records(record: &Record) -> Vec<Record> {
     vertices.chain(events).collect()
 }
 
-/// What an accepted call leaves: the table without the places past its links, and the record.
+/// What an accepted call answers, the size of its table before the events; and what it leaves: the table without the places past its
+/// links, and the record.
 #[derive(Clone, PartialEq, Eq, Debug)]
 pub struct Left {
+    pub size: Size,
     pub starts: Vec<u16>,
     pub links: Vec<u16>,
     pub record: Record,
@@ -123,11 +125,17 @@ impl From<reference::Record> for Left {
             lifted: r.followers,
             redone: r.recomputed,
         };
-        Left { starts: r.starts, links: r.links, record }
+        Left { size: size(r.size), starts: r.starts, links: r.links, record }
     }
 }
 
 impl Left {
+    /// Whether the events have changed the number of edges, and the greatest degree.
+    pub fn resized(&self) -> [bool; 2] {
+        let end = table_size(&self.pool()).unwrap();
+        [self.size.edges != end.edges, self.size.max_degree != end.max_degree]
+    }
+
     /// The table with who is anchored at the end.
     pub fn pool(&self) -> Pool {
         Pool { starts: self.starts.clone(), links: self.links.clone(), anchored: self.record.anchored.clone() }
@@ -137,7 +145,7 @@ impl Left {
     pub fn bare_levels(&self) -> Vec<u16> {
         let free = Pool { anchored: vec![0; self.record.anchored.len()], ..self.pool() };
         let [mut levels, mut layers, mut components] = [0; 3].map(|_| vec![0; free.size()]);
-        assert_eq!(planner::work(input(&free), &mut levels, &mut layers, &mut components), Ok(()));
+        assert_eq!(planner::work(input(&free), &mut levels, &mut layers, &mut components), table_size(&free));
         levels
     }
 }
@@ -151,15 +159,16 @@ pub fn names(list: &[u16]) -> Vec<Event> {
 /// Slices are compared many times faster than numbers one by one.
 static ZEROS: [u16; LINK_PLACES] = [0; LINK_PLACES];
 
-/// A session that must be accepted and leave 0 in every place past its links; what it leaves.
+/// A session that must be accepted, with the size that the check of the table answers, and leave 0 in every place past its links.
 pub fn accepted(pool: &Pool, events: &[Event]) -> Left {
     let mut call = Call::new(pool, events);
-    assert_eq!(call.make(), Ok(()), "{pool:?} {events:?}");
+    let size = call.make().unwrap_or_else(|e| panic!("{e}: {pool:?} {events:?}"));
+    assert_eq!(planner::check(&pool.starts, &pool.links), Ok(size), "{pool:?} {events:?}");
     let Call { starts, mut links, record, .. } = call;
     let last = *starts.last().unwrap() as usize;
     assert!(links[last..] == ZEROS[last..], "{pool:?} {events:?}");
     links.truncate(last);
-    Left { starts, links, record }
+    Left { size, starts, links, record }
 }
 
 /// A session against the naive one, which has taken the same events.

@@ -1,8 +1,8 @@
 //! A session from event to event, by the planner's own answers alone: each record is the fresh one for the table as it stands, and what
 //! lies between two of them is what documents 01 and 02 say of the event.
 
-use super::input;
 use super::sessions::{accepted, climbed, Left};
+use super::{input, table_size};
 use planner::Record;
 use pools::Pool;
 use reference::Event;
@@ -18,21 +18,25 @@ pub struct Met {
     /// Levels of vertices not anchored that an edge, added or dropped, has lowered, left and raised; and so their bare levels.
     pub levels: [usize; 3],
     pub bare: [usize; 3],
+    /// Calls whose events have changed the number of edges, and those that have changed the greatest degree.
+    pub resized: [usize; 2],
 }
 
 /// The record, stamps apart, is the fresh one of the other operations, which accept the table. The bare levels.
 fn is_fresh(left: &Left) -> Vec<u16> {
     let (pool, record, bare) = (left.pool(), &left.record, left.bare_levels());
-    assert_eq!(planner::check(&pool.starts, &pool.links), Ok(()));
+    let size = table_size(&pool);
+    assert_eq!(planner::check(&pool.starts, &pool.links), size);
     let ([mut levels, mut layers, mut components], mut marks) = ([0; 3].map(|_| vec![0; pool.size()]), vec![0; pool.size()]);
-    assert_eq!(planner::work(input(&pool), &mut levels, &mut layers, &mut components), Ok(()));
+    assert_eq!(planner::work(input(&pool), &mut levels, &mut layers, &mut components), size);
     assert_eq!((&levels, &layers, &components), (&record.levels, &record.layers, &record.components), "{pool:?}");
     for x in 0..pool.size() {
         let net = match record.anchored[x] {
             1 => -32768,
             _ => {
-                let lifted = planner::followers(input(&pool), &levels, &layers, x, &mut marks).unwrap().lifted;
-                lifted as i16 - (levels[x] as i16 - bare[x] as i16)
+                let found = planner::followers(input(&pool), &levels, &layers, x, &mut marks).unwrap();
+                assert_eq!(Ok(found.size), size);
+                found.lifted as i16 - (levels[x] as i16 - bare[x] as i16)
             }
         };
         assert_eq!(record.yields[x], net, "{pool:?} {x}");
@@ -102,6 +106,10 @@ impl Met {
     pub fn along(&mut self, pool: &Pool, events: &[Event]) -> Vec<Left> {
         let upto: Vec<Left> = (0..=events.len()).map(|i| accepted(pool, &events[..i])).collect();
         let bare: Vec<Vec<u16>> = upto.iter().map(is_fresh).collect();
+        for left in &upto {
+            assert_eq!(Ok(left.size), table_size(pool));
+            self.resized.iter_mut().zip(left.resized()).for_each(|(count, resized)| *count += resized as usize);
+        }
         // what is climbed in all since the last change of an edge
         let mut sum = climbed(&upto[0].record, &bare[0]);
         for (i, &event) in events.iter().enumerate() {

@@ -1,5 +1,5 @@
--- `work::work` meets its contract: a refusal is handed on, and without one the sheet is written. Assumes nothing.
-use mathlib.Core.Path.{_≡_, refl, sym, _∙_}
+-- `work::work` meets its contract: a refusal is handed on, and without one the table is measured and the sheet is written. Assumes nothing.
+use mathlib.Core.Path.{_≡_, refl, sym, ap, _∙_}
 use mathlib.Core.Logic.{inl, inr}
 use mathlib.Core.List.{[], _∷_}
 use lib.ListN.{length}
@@ -7,6 +7,7 @@ use Rattle.table.specs.declared.Guard.the-variants.{Passed}
 use Rattle.table.proofs.Guards.{handed, cleared}
 use Rattle.pool.specs.Lengths.{slicesOf}
 use Rattle.pool.proofs.Lengths.{slices-sound}
+use Rattle.level.specs.declared.work.Worked.the-variants.{Done}
 use borrow.Author.Needs.{needs}
 use Rattle.level.proofs.work.work.Statement.{statement}
 use Rattle.level.proofs.work.work.Tie as tie
@@ -30,9 +31,12 @@ enum-known-admitted c = search needs
 enum-told : tie.Need-enum-told
 enum-told c = search needs
 
+measure-requires : tie.Need-measure-requires
+measure-requires c κs = slices-sound _ _ _ _ (told c) .0 .table
+
 write-sheet-requires : tie.Need-write-sheet-requires
 write-sheet-requires c κs =
-    let promised = slices-sound _ _ _ _ (told (c .before .before .before)) in
+    let promised = slices-sound _ _ _ _ (told (c .before .before .before .before)) in
     (promised .0, (promised .1 _ (inl refl), (promised .1 _ (inr (inl refl)), promised .1 _ (inr (inr (inl refl))))))
 
 returns : tie.Need-returns
@@ -51,9 +55,10 @@ same-length-3 c = called c .write-sheet .kept .1 .1 .1 .1 .1 .0
 
 returns-2 : tie.Need-returns-2
 returns-2 c =
-    let passed = told (called c .before .before .before .before) in
+    let measured = called c .before .before .before .before in
+    let passed = told (measured .before) in
     let written = called c .write-sheet .ensures in
-    (sym (cleared _ _ passed), written .0 ∙ sym (cleared _ _ passed), written .1 .0 ∙ sym (cleared _ _ passed), written .1 .1 ∙ sym (cleared _ _ passed))
+    (ap Done (measured .measure .ensures) ∙ sym (cleared _ _ passed), written .0 ∙ sym (cleared _ _ passed), written .1 .0 ∙ sym (cleared _ _ passed), written .1 .1 ∙ sym (cleared _ _ passed))
 
 pub work-spec : {M : Type 1} → statement M
 work-spec =
@@ -63,6 +68,7 @@ work-spec =
     admit-slices-requires
     enum-known-admitted
     enum-told
+    measure-requires
     write-sheet-requires
     returns
     same-length

@@ -53,7 +53,7 @@ returns : tie.Need-returns
 returns c =
     let run = called c .run .ensures in
     let answered = c .of-ran .ensures ∙ ap ranAs (run .0 .0) ∙ answer-as ranAs _ _ _ in
-    ((answered, run .0 .1), λ e. run .1 (run .0 .0 ∙ cleared _ _ (run-numbered _ _ _ _ _ _ (sym (ap (λ r. r .number) answered) ∙ e))))
+    ((answered, run .0 .1), λ e. run .1 _ (run .0 .0 ∙ cleared _ _ (run-numbered _ _ _ _ _ _ _ (sym (ap (λ r. r .number) answered) ∙ e))))
 
 pub planner-run-spec : {M : Type 1} → statement M
 planner-run-spec =

@@ -1,11 +1,13 @@
 -- `run::run` meets its contract: demand 3 for every session that is not refused. Assumes nothing.
-use mathlib.Core.Path.{_≡_, refl, sym, _∙_}
+use mathlib.Core.Path.{_≡_, refl, sym, ap, _∙_}
 use Prim.Native.Nat.{ℕ}
 use native.Mathlib.Omega.{arith}
 use borrow.Author.Needs.{needs}
 use Rattle.table.specs.declared.Guard.the-variants.{Passed}
 use Rattle.table.proofs.Guards.{handed, cleared}
+use Rattle.edit.proofs.Checked.{lent-sound}
 use Rattle.session.specs.Run.{Lists, lists, Slices, slices, runOf}
+use Rattle.session.specs.declared.run.Ran.the-variants.{Served}
 use Rattle.session.proofs.Runs.{run-sound}
 use Rattle.session.proofs.Claims.{session-claim}
 use Rattle.session.proofs.run.run.Statement.{statement}
@@ -49,8 +51,11 @@ enum-known-admitted c = search needs
 enum-told : tie.Need-enum-told
 enum-told c = search needs
 
+measure-requires : tie.Need-measure-requires
+measure-requires c κs = let told-at = c .before .before in lent-sound _ _ (run-sound _ _ _ (events (start told-at)) _ (told told-at) .0 .table)
+
 write-requires : tie.Need-write-requires
-write-requires c κs = let told-at = c .before .before .before .before .before .before .before .before .before .before .before in run-sound _ _ _ (events (start told-at)) _ (told told-at)
+write-requires c κs = let told-at = c .before .before .before .before .before .before .before .before .before .before .before .before .before .before in run-sound _ _ _ (events (start told-at)) _ (told told-at)
 
 same-length : tie.Need-same-length
 same-length c = search needs
@@ -61,7 +66,7 @@ same-length-2 c = search needs
 returns : tie.Need-returns
 returns c =
     let refused = sym (c .before .before .before .admit .ensures) ∙ c .before .admitted .given .1 in
-    ((sym (handed _ _ refused), sym (handed _ _ refused)), λ e. let z : _≡_ {A = ℕ} 0 1 = cc in absurd (omega arith))
+    ((sym (handed _ _ refused), sym (handed _ _ refused)), λ size e. let z : _≡_ {A = ℕ} 0 1 = cc in absurd (omega arith))
 
 same-length-3 : tie.Need-same-length-3
 same-length-3 c = called c .write .kept .0
@@ -98,9 +103,10 @@ same-length-13 c = called c .write .kept .1 .1 .1 .1 .1 .1 .1 .1 .1 .1 .1 .1 .1 
 
 returns-2 : tie.Need-returns-2
 returns-2 c =
-    let told-at = called c .before .before .before .before .before .before .before .before .before .before .before .before in
+    let measured = called c .before .before .before .before .before .before .before .before .before .before .before .before in
+    let told-at = measured .before .before .before in
     let passed = told told-at in
-    ((sym (cleared _ _ passed), called c .write .ensures ∙ sym (cleared _ _ passed)), λ e. session-claim _ _ _ _ (lent (start told-at)) refl refl passed)
+    ((ap Served (measured .measure .ensures) ∙ sym (cleared _ _ passed), called c .write .ensures ∙ sym (cleared _ _ passed)), λ size e. session-claim _ _ _ _ (lent (start told-at)) refl refl passed)
 
 pub run-spec : {M : Type 1} → statement M
 run-spec =
@@ -112,6 +118,7 @@ run-spec =
     admit-requires
     enum-known-admitted
     enum-told
+    measure-requires
     write-requires
     same-length
     same-length-2
