@@ -1,6 +1,6 @@
 -- Document 02, card 6: an edge (pair) added to a graph, or dropped from it.
 use mathlib.Core.Path.{_≡_}
-use mathlib.Core.Bool.{cond}
+use mathlib.Core.Bool.{Bool, cond, _||_}
 use mathlib.Core.List.{List}
 use Prim.Native.Nat.{ℕ, _<_}
 use lib.ListN.{length}
@@ -9,6 +9,10 @@ use Rattle.finite.specs.Count.{sum, below}
 use Rattle.finite.specs.Search.{member}
 use Rattle.finite.specs.Edits.{insert, remove}
 use Rattle.anchored.specs.Graph.{Graph}
+
+-- v is one of the two
+abbrev pub either : ℕ → ℕ → ℕ → Bool
+either a b v = eqb a v || eqb b v
 
 -- b put into, or taken out of, the neighbors of a, and a those of b
 abbrev pub edited : (ℕ → List ℕ → List ℕ) → Graph → ℕ → ℕ → Graph

@@ -1,6 +1,6 @@
 -- Document 02, card 6: events. Vertices are anchored, edges (pairs) are added and dropped; the plain session keeps the graph beside its set.
 use mathlib.Core.Path.{_≡_}
-use mathlib.Core.Bool.{Bool, not, cond, _&&_, _||_, Bool·beq}
+use mathlib.Core.Bool.{Bool, not, cond, _&&_, Bool·beq}
 use mathlib.Core.List.{List}
 use Prim.Native.Nat.{ℕ, zero, suc, _+_, _≤_, _<_}
 use lib.ListN.{getD}
@@ -9,7 +9,7 @@ use lib.Dec.{T, ltb, eqb}
 use Rattle.finite.specs.Count.{In, count, below}
 use Rattle.finite.specs.Search.{member}
 use Rattle.anchored.specs.Graph.{Graph}
-use Rattle.anchored.specs.Edge.{withEdge, withoutEdge, linkCount}
+use Rattle.anchored.specs.Edge.{either, withEdge, withoutEdge, linkCount}
 use Rattle.anchored.specs.Yield.{net}
 use Rattle.anchored.specs.Step.{recomputed}
 use Rattle.anchored.specs.Session.{Plain, Row, statusOf, rowOf, turn}
@@ -44,7 +44,7 @@ adds e = eqb (e .kind) 1
 
 -- v is one of the two vertices
 abbrev pub ends : Event → ℕ → Bool
-ends e v = eqb (e .first) v || eqb (e .second) v
+ends e v = either (e .first) (e .second) v
 
 -- 6 for an edge of a vertex with itself, 15 for no vertex, 22 for adding an edge that is there or dropping one that is not, 23 for no space for two links
 unfoldable pub edgeStatus : Graph → Event → ℕ

@@ -1,14 +1,14 @@
 -- A graph has one table in 16,384 places, and its last start is the number of links. Assumes nothing.
-use mathlib.Core.Path.{_≡_, refl, sym, ap, ap₂, _∙_, subst}
+use mathlib.Core.Path.{_≡_, refl, sym, ap, ap₂, _∙_}
 use mathlib.Core.List.{List, [], _∷_, _++_, flatten, append-nil}
 use Prim.Native.Nat.{ℕ, zero, suc, _+_, _-_, _≤_}
 use native.Mathlib.Omega.{arith}
 use lib.ListN.{length, take, drop, getD, replicate, length-drop, length-replicate, take-append-drop}
 use lib.Seq.{take-add, getD-drop, ext-getD}
 use Rattle.finite.specs.Count.{tabulate, below, sum}
-use Rattle.finite.proofs.Count.{length-tabulate, tabulate-at, sum-below-zero, sum-below-more, flatten-append, zeros-at}
+use Rattle.finite.proofs.Count.{length-tabulate, tabulate-at, flatten-append, zeros-at}
 use Rattle.table.specs.Table.{vertices, neighbors}
-use Rattle.table.proofs.Laws.{neighbors-length}
+use Rattle.table.proofs.Edges.{degrees-below}
 use Rattle.anchored.specs.Graph.{Graph}
 use Rattle.anchored.specs.Edge.{linkCount}
 use Rattle.pool.specs.Input.{graphOf}
@@ -23,16 +23,7 @@ module _ {s l : List ℕ} (P : Padded s l) where
 
   -- a start is the number of links before it
   start-before : (v : ℕ) → v ≤ vertices s → getD s v 0 ≡ before v
-  start-before zero h = P .origin ∙ sym (sum-below-zero (λ u. length (lists u)))
-  start-before (suc v) h =
-      let so = start-before v (omega arith) in
-      let more = sum-below-more (λ u. length (lists u)) v in
-      let own = neighbors-length s l (P .framed) v (omega arith) in
-      let step = P .framed .step v (omega arith) in
-      let q : v + 1 ≡ suc v = omega arith in
-      let total : before (suc v) ≡ before v + length (lists v) = subst (λ z. sum (λ u. length (lists u)) (below z) ≡ before v + length (lists v)) q more in
-      let last : getD s (v + 1) 0 ≡ getD s (suc v) 0 = ap (λ z. getD s z 0) q in
-      omega arith
+  start-before v h = omega (arith, degrees-below s l (P .framed) v h, P .origin)
 
   count-last : linkCount (graphOf s l) ≡ lastStart s
   unfolding linkCount

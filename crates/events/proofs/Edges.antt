@@ -12,7 +12,7 @@ use Rattle.finite.specs.Count.{count, below}
 use Rattle.finite.proofs.Tests.{split, neqb}
 use Rattle.table.specs.Table.{vertices}
 use Rattle.anchored.specs.Graph.{Graph, Simple}
-use Rattle.anchored.specs.Edge.{Parted}
+use Rattle.anchored.specs.Edge.{either, Parted}
 use Rattle.anchored.specs.Followers.{followers, followerCount}
 use Rattle.anchored.specs.Step.{recomputed}
 use Rattle.anchored.specs.Events.{Event, eventOf, edgeEvent, Pool, anchors, ends, Editable, edgeStatus, eventStatus, edgeGraph, edgeStale, eventRow, eventTurn}
@@ -31,7 +31,7 @@ use Rattle.step.specs.Turn.{rowAs}
 use Rattle.step.specs.Turn.{Turned as Stepping}
 use Rattle.step.specs.declared.Stepped.{Stepped}
 use Rattle.events.specs.Turn.{poolOf, refusing, Turned}
-use Rattle.events.specs.Renew.{either, Before, Renews}
+use Rattle.events.specs.Renew.{Before, Renews}
 
 -- ---- statuses
 

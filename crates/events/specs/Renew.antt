@@ -1,12 +1,12 @@
 -- The record worked on for a table in which one edge is new or gone.
 use mathlib.Core.Path.{_≡_}
-use mathlib.Core.Bool.{Bool, not, _||_}
+use mathlib.Core.Bool.{not}
 use mathlib.Core.List.{List}
 use Prim.Native.Nat.{ℕ, _<_}
-use lib.Dec.{T, eqb}
+use lib.Dec.{T}
 use Rattle.table.specs.Table.{vertices, neighbors}
 use Rattle.anchored.specs.Graph.{Graph, Simple}
-use Rattle.anchored.specs.Edge.{Parted}
+use Rattle.anchored.specs.Edge.{either, Parted}
 use Rattle.anchored.specs.Yield.{bareLevel}
 use Rattle.anchored.specs.Step.{recomputed}
 use Rattle.pool.specs.Input.{graphOf, anchoredBy}
@@ -16,10 +16,6 @@ use Rattle.stale.specs.declared.Columns.{Columns}
 use Rattle.records.specs.declared.Record.{Record}
 use Rattle.step.specs.Rows.{staleBy, Redone}
 use Rattle.step.specs.declared.Stepped.{Stepped}
-
--- v is one of the two
-abbrev pub either : ℕ → ℕ → ℕ → Bool
-either a b v = eqb a v || eqb b v
 
 -- the record was worked out for G, in which the edge (a, b) alone is other than in the table
 pub record Before (s l : List ℕ) (a b : ℕ) (kept : Record) (G : Graph) : Type 0 where

@@ -406,27 +406,25 @@ pub sum-below-more : (f : ℕ → ℕ) (i : ℕ) → sum f (below (i + 1)) ≡ s
 unfolding sum below tabulate
 sum-below-more f i = rw add-one (sum-append f (below i) (i ∷ []) ∙ ap (λ (z : ℕ). sum f (below i) + z) (omega arith))
 
--- sums that agree term by term, two against two
-pub sum-pairs : (f g h k : ℕ → ℕ) (l : List ℕ) → ((w : ℕ) → In w l → f w + g w ≡ h w + k w) → sum f l + sum g l ≡ sum h l + sum k l
+pub sum-add : (f g : ℕ → ℕ) (l : List ℕ) → sum (λ w. f w + g w) l ≡ sum f l + sum g l
 unfolding sum
-sum-pairs f g h k [] e = refl
-sum-pairs f g h k (u ∷ us) e = omega (arith, e u (inl refl), sum-pairs f g h k us (λ w i. e w (inr i)))
+sum-add f g [] = refl
+sum-add f g (u ∷ us) = omega (arith, sum-add f g us)
 
 pub sum-cong : (f g : ℕ → ℕ) (l : List ℕ) → ((w : ℕ) → In w l → f w ≡ g w) → sum f l ≡ sum g l
 unfolding sum
 sum-cong f g [] e = refl
 sum-cong f g (u ∷ us) e = omega (arith, e u (inl refl), sum-cong f g us (λ w i. e w (inr i)))
 
+-- sums that agree term by term, two against two
+pub sum-pairs : (f g h k : ℕ → ℕ) (l : List ℕ) → ((w : ℕ) → In w l → f w + g w ≡ h w + k w) → sum f l + sum g l ≡ sum h l + sum k l
+sum-pairs f g h k l e = omega (arith, sum-add f g l, sum-add h k l, sum-cong (λ w. f w + g w) (λ w. h w + k w) l e)
+
 -- a count is a sum of bits
 pub sum-bits : (p : ℕ → Bool) (l : List ℕ) → sum (λ w. bit (p w)) l ≡ count p l
 unfolding sum count
 sum-bits p [] = refl
 sum-bits p (u ∷ us) = omega (arith, sum-bits p us)
-
-pub sum-add : (f g : ℕ → ℕ) (l : List ℕ) → sum (λ w. f w + g w) l ≡ sum f l + sum g l
-unfolding sum
-sum-add f g [] = refl
-sum-add f g (u ∷ us) = omega (arith, sum-add f g us)
 
 -- pairs counted by their first are as many as counted by their second
 pub sum-swap : (r : ℕ → ℕ → Bool) (l m : List ℕ) → sum (λ u. count (r u) m) l ≡ sum (λ v. count (λ u. r u v) l) m

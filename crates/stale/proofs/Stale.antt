@@ -11,7 +11,7 @@ use Rattle.finite.specs.Count.{In, below}
 use Rattle.finite.specs.Search.{any}
 use Rattle.finite.specs.Pairs.{pairLe}
 use Rattle.finite.proofs.Tests.{split, same, true-of, false-of, and-i, and-l, and-r, or-l, or-r, or-e}
-use Rattle.finite.proofs.Count.{in-at, in-below, zeros-at, count-cong, count-length, distinct-length}
+use Rattle.finite.proofs.Count.{in-at, in-below, zeros-at, count-cong, count-length}
 use Rattle.finite.proofs.Search.{any-i, any-e, any-none, any-cong}
 use Rattle.anchored.specs.Graph.{Graph, Simple}
 use Rattle.anchored.specs.Core.{level, layer, greater, higher}
@@ -22,6 +22,7 @@ use Rattle.anchored.specs.Changed.{steady, changed}
 use Rattle.anchored.proofs.Core.{level-lt, level-anchored}
 use Rattle.anchored.proofs.Changed.{component-anchored, component-lt, sees-changed}
 use Rattle.table.specs.Table.{vertices, neighbors, SoundTable}
+use Rattle.table.proofs.Laws.{neighbors-few}
 use Rattle.pool.specs.Input.{graphOf}
 use Rattle.pool.specs.Arrays.{Holds}
 use Rattle.pool.proofs.Laws.{simple}
@@ -86,7 +87,7 @@ above-means s l table A lev levels v h a =
 -- a vertex has fewer than 1,025 neighbors
 pub above-few : (s l : List ℕ) → SoundTable s l → (lev : List ℕ) (v : ℕ) → v < vertices s → aboveBy s l lev v ≤ 1024
 above-few s l table lev v h =
-    omega (arith, count-length (higherBy lev v) (neighbors s l v), distinct-length (neighbors s l v) (vertices s) (table .distinct v h) (λ w i. table .range v w h i), table .small)
+    omega (arith, count-length (higherBy lev v) (neighbors s l v), neighbors-few s l table v h, table .small)
 
 -- so the columns are the defined ones where levels, layers and components are, and the numbers above are counted by the levels
 pub columns-defined : {s l : List ℕ} {A : ℕ → Bool} {x : Columns} → SoundTable s l → Holds (x .level) (vertices s) (level (graphOf s l) A) → Holds (x .layer) (vertices s) (layer (graphOf s l) A)

@@ -10,12 +10,12 @@ use lib.Dec.{T, ltb, ltb→lt, nltb→le}
 use Rattle.finite.specs.Count.{below, count, sum, In}
 use Rattle.finite.specs.Search.{member, greatestOf}
 use Rattle.finite.proofs.Tests.{and-i, and-l, and-r, or-l, or-r, or-e, nand-i, split, same}
-use Rattle.finite.proofs.Count.{in-below, count-cong, count-union, count-listed, distinct-other, sum-cong, sum-add, sum-below-zero, sum-below-more, sum-swap}
+use Rattle.finite.proofs.Count.{in-below, count-cong, count-union, count-listed, sum-cong, sum-add, sum-below-zero, sum-below-more, sum-swap}
 use Rattle.finite.proofs.Search.{member-i, member-e, greatest-bounds, greatest-one, greatest-zero}
 use Rattle.table.specs.Table.{vertices, neighbors, checkOf, Framed, SoundTable}
 use Rattle.table.specs.Size.{edge, edgesOf, degreeOf, sizeOf, Measures}
 use Rattle.table.specs.declared.Guard.the-variants.{Passed}
-use Rattle.table.proofs.Laws.{neighbors-length, ends, sound}
+use Rattle.table.proofs.Laws.{neighbors-length, neighbors-few, ends, sound}
 
 -- the links of the vertices below v end where those of v start
 pub degrees-below : (s l : List ℕ) → Framed s l → (v : ℕ) → v ≤ vertices s → sum (degreeOf s l) (below v) + getD s 0 0 ≡ getD s v 0
@@ -62,9 +62,6 @@ module _ (s l : List ℕ) (t : SoundTable s l) where
       let upper : ℕ → ℕ = λ v. count (λ w. edge s l w v) all in
       omega (arith, sum-swap (edge s l) all all, sum-add lower upper all, sum-cong (degreeOf s l) (λ v. lower v + upper v) all (λ v i. degree-split v (in-below (vertices s) v .0 i)))
 
-  degree-lt : (v : ℕ) → v < vertices s → degreeOf s l v < vertices s
-  degree-lt v h = distinct-other (neighbors s l v) (vertices s) (t .distinct v h) (λ w i. t .range v w h i) v h (t .loopless v h)
-
 -- what the size says
 pub measured : (s l : List ℕ) → checkOf s l ≡ Passed → Measures s l (sizeOf s l)
 unfolding sizeOf
@@ -83,6 +80,6 @@ measured s l e =
       no-degree = zero-of;
       few = omega (arith, links);
       small = split (ltb 0 (vertices s))
-          (λ some. let top = greatest-one (degreeOf s l) (vertices s) (ltb→lt 0 (vertices s) some) in omega (arith, top .2, degree-lt s l t (top .0) (top .1), t .small))
+          (λ some. let top = greatest-one (degreeOf s l) (vertices s) (ltb→lt 0 (vertices s) some) in omega (arith, top .2, neighbors-few s l t (top .0) (top .1), t .small))
           (λ none. omega (arith, zero-of (omega (arith, nltb→le 0 (vertices s) none))));
     }

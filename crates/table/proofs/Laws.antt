@@ -11,7 +11,7 @@ use borrow.Author.Tests.{lt-ltb, le-ltb, lt-leb, eq-eqb, ne-eqb, ltb-false, leb-
 use Rattle.finite.specs.Count.{In}
 use Rattle.finite.specs.Search.{member, first, NoneBelow}
 use Rattle.finite.specs.Search.{ascending as ascends}
-use Rattle.finite.proofs.Count.{in-at, distinct-length}
+use Rattle.finite.proofs.Count.{in-at, distinct-other}
 use Rattle.finite.proofs.Tests.{of-true, true-of, false-of, of-false, not-or}
 use Rattle.finite.proofs.Search.{not-any, member-i, member-e, none-any, first-none, first-le, none-of, ascending-distinct}
 use Rattle.table.specs.Table.{vertices, neighbors, wrongEnd, wrongStep, badStart, beyond, looped, unsorted, unreturned, checkOf, Framed, SoundTable}
@@ -53,9 +53,9 @@ pub neighbors-length : (s l : List ℕ) → Framed s l → (v : ℕ) → v < ver
 unfolding neighbors
 neighbors-length s l f v h = simp (length-take, length-drop) (omega (arith, f .step v h, f .within (v + 1) (omega arith)))
 
--- no more than there are vertices
-pub neighbors-few : (s l : List ℕ) → SoundTable s l → (v : ℕ) → v < vertices s → length (neighbors s l v) ≤ vertices s
-neighbors-few s l t v h = distinct-length (neighbors s l v) (vertices s) (t .distinct v h) (λ w. t .range v w h)
+-- fewer than there are vertices: v is not among them
+pub neighbors-few : (s l : List ℕ) → SoundTable s l → (v : ℕ) → v < vertices s → length (neighbors s l v) < vertices s
+neighbors-few s l t v h = distinct-other (neighbors s l v) (vertices s) (t .distinct v h) (λ w. t .range v w h) v h (t .loopless v h)
 
 -- the link at a place of u's part stands in u's neighbors
 pub link-in : (s l : List ℕ) → Framed s l → (u i : ℕ) → u < vertices s → getD s u 0 ≤ i → i < getD s (u + 1) 0 → In (getD l i 0) (neighbors s l u)

@@ -113,6 +113,16 @@ fn sound() -> Handed {
     }
 }
 
+/// A call that fills three slices with a number for each vertex.
+type Filling = unsafe extern "C" fn(
+    *const u16, usize, *const u16, usize, *const u8, usize, *mut u16, usize, *mut u16, usize, *mut u16, usize,
+) -> Answer;
+
+/// A call that is handed a level sheet and a vertex, and marks vertices.
+type Marking = unsafe extern "C" fn(
+    *const u16, usize, *const u16, usize, *const u8, usize, *const u16, usize, *const u16, usize, usize, *mut u8, usize,
+) -> Answer;
+
 impl Handed {
     fn check(&self) -> Answer {
         let Pool { starts, links, .. } = &self.pool;
@@ -120,20 +130,10 @@ impl Handed {
         unsafe { exports::planner_check(starts.as_ptr(), starts.len(), links.as_ptr(), links.len()) }
     }
 
-    fn work(&self) -> Answer {
+    fn filled_by(&self, call: Filling) -> Answer {
         let (Pool { starts, links, anchored }, [mut a, mut b, mut c]) = (&self.pool, [0; 3].map(|_| vec![0; self.room]));
         unsafe {
-            exports::planner_work(
-                starts.as_ptr(), starts.len(), links.as_ptr(), links.len(), anchored.as_ptr(), anchored.len(),
-                a.as_mut_ptr(), a.len(), b.as_mut_ptr(), b.len(), c.as_mut_ptr(), c.len(),
-            )
-        }
-    }
-
-    fn list_components(&self) -> Answer {
-        let (Pool { starts, links, anchored }, [mut a, mut b, mut c]) = (&self.pool, [0; 3].map(|_| vec![0; self.room]));
-        unsafe {
-            exports::planner_list_components(
+            call(
                 starts.as_ptr(), starts.len(), links.as_ptr(), links.len(), anchored.as_ptr(), anchored.len(),
                 a.as_mut_ptr(), a.len(), b.as_mut_ptr(), b.len(), c.as_mut_ptr(), c.len(),
             )
@@ -150,20 +150,10 @@ impl Handed {
         }
     }
 
-    fn followers(&self) -> Answer {
+    fn marked_by(&self, call: Marking) -> Answer {
         let (Handed { pool: Pool { starts, links, anchored }, levels, layers, .. }, mut marks) = (self, vec![0; self.room]);
         unsafe {
-            exports::planner_followers(
-                starts.as_ptr(), starts.len(), links.as_ptr(), links.len(), anchored.as_ptr(), anchored.len(),
-                levels.as_ptr(), levels.len(), layers.as_ptr(), layers.len(), self.x, marks.as_mut_ptr(), marks.len(),
-            )
-        }
-    }
-
-    fn collapse(&self) -> Answer {
-        let (Handed { pool: Pool { starts, links, anchored }, levels, layers, .. }, mut marks) = (self, vec![0; self.room]);
-        unsafe {
-            exports::planner_collapse(
+            call(
                 starts.as_ptr(), starts.len(), links.as_ptr(), links.len(), anchored.as_ptr(), anchored.len(),
                 levels.as_ptr(), levels.len(), layers.as_ptr(), layers.len(), self.x, marks.as_mut_ptr(), marks.len(),
             )
@@ -220,11 +210,11 @@ type Told = (fn(&Handed) -> Answer, [u64; 5], &'static [u64]);
 
 const CALLS: [Told; 7] = [
     (Handed::check, [0, 0, 0, 3, 2], &[1, 2, 3, 4, 5, 6, 7, 8]),
-    (Handed::work, [0, 0, 0, 3, 2], &[1, 2, 3, 4, 5, 6, 7, 8, 9, 10, 12]),
-    (Handed::list_components, [0, 1, 0, 3, 2], &[1, 2, 3, 4, 5, 6, 7, 8, 9, 10, 12]),
+    (|handed| handed.filled_by(exports::planner_work), [0, 0, 0, 3, 2], &[1, 2, 3, 4, 5, 6, 7, 8, 9, 10, 12]),
+    (|handed| handed.filled_by(exports::planner_list_components), [0, 1, 0, 3, 2], &[1, 2, 3, 4, 5, 6, 7, 8, 9, 10, 12]),
     (Handed::check_sheet, [0, 0, 0, 3, 2], &[1, 2, 3, 4, 5, 6, 7, 8, 9, 10, 13, 14, 19, 20, 21]),
-    (Handed::followers, [0, 2, 2, 3, 2], &[1, 2, 3, 4, 5, 6, 7, 8, 9, 10, 12, 13, 14, 15, 16, 19, 20, 21]),
-    (Handed::collapse, [0, 0, 0, 3, 2], &[1, 2, 3, 4, 5, 6, 7, 8, 9, 10, 12, 13, 14, 15, 19, 20, 21]),
+    (|handed| handed.marked_by(exports::planner_followers), [0, 2, 2, 3, 2], &[1, 2, 3, 4, 5, 6, 7, 8, 9, 10, 12, 13, 14, 15, 16, 19, 20, 21]),
+    (|handed| handed.marked_by(exports::planner_collapse), [0, 0, 0, 3, 2], &[1, 2, 3, 4, 5, 6, 7, 8, 9, 10, 12, 13, 14, 15, 19, 20, 21]),
     (Handed::run, [0, 0, 0, 3, 2], &[1, 2, 3, 4, 5, 6, 7, 8, 9, 10, 11, 12]),
 ];
 
