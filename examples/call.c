@@ -71,6 +71,18 @@ static void sheet(void)
 }
 
 /*
+ * Rider 0 is retained on the days 0 to 9, rider 3 on 0 to 4 and by a second term on 5 to 7; so long as both are, 1 and 2 have level 2. Day
+ * 8 is the first on which rider 1 is under 2, and before it there is none. A term that ends on its first day is refused.
+ */
+static void terms(void)
+{
+    static const uint16_t riders[] = {0, 3, 3}, firsts[] = {0, 0, 5}, ends[] = {10, 5, 8}, wrong_ends[] = {10, 5, 5};
+    tell("first_day", planner_first_day(starts, 5, links, 6, riders, 3, firsts, 3, ends, 3, 2, 20, 1, 2));
+    tell("first_day before day 8", planner_first_day(starts, 5, links, 6, riders, 3, firsts, 3, ends, 3, 2, 8, 1, 2));
+    tell("first_day with an end of 5", planner_first_day(starts, 5, links, 6, riders, 3, firsts, 3, wrong_ends, 3, 2, 20, 1, 2));
+}
+
+/*
  * A week of events, rider 0 being retained. 3 is retained: 1 and 2 climb a level. 0 and 2 become partners, 1 and 2 part: 1 falls again.
  * Parting them once more is refused, and so is retaining 9, who is no rider. 0 and 3 become partners too: 0 has three now, and there are
  * four pairs, where the answer has those of the start, three and two.
@@ -117,6 +129,7 @@ int main(void)
 {
     check();
     sheet();
+    terms();
     session();
     text();
     return 0;

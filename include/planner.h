@@ -1,6 +1,7 @@
 /*
  * The planner: a pool of riders and their partners as a graph. It works out levels of the anchored k-core, checks them, tells whom one
- * more anchor lifts and whom a vertex takes down, works down a list of events, and turns a text into a sheet of rounds.
+ * more anchor lifts, whom a vertex takes down and on which day a vertex is first under a level, works down a list of events, and turns a
+ * text into a sheet of rounds.
  *
  * For C99 and C++ on x86-64 Linux, with the archive libplanner_c.a (README.md says how to make it and link with it). Every function is
  * proved to answer, and to leave in the memory lent to it, exactly what is defined, whatever the numbers that it is handed, if the caller
@@ -27,7 +28,9 @@
  *   vertex (rider)       a number from 0 to n - 1; n is at most 1,024
  *   neighbors (partners) the vertices that a vertex has an edge (pair) with: mutual, and never the vertex itself
  *   degree               of a vertex: how many neighbors it has
- *   anchored (retained)  a byte for each vertex: 1 if it is anchored, 0 if not
+ *   anchored (retained)  a byte for each vertex: 1 if it is anchored, 0 if not; in planner_first_day terms say it instead
+ *   term                 a vertex, a first day and an end day: the vertex is anchored on every day from the first on and before the end;
+ *                        days are numbered from 0 to 65,535
  *   core k               the largest set of vertices in which each one that is not anchored has at least k neighbors in the set; an
  *                        anchored vertex is always in it
  *   level                of a vertex not anchored: the largest k whose core holds it
@@ -47,8 +50,8 @@
  * Refusals
  *
  * Each call below names the refusals that it can answer, in the order in which they are tested. Each test is over the whole input, and the
- * first that fails is answered, with its place. Where several places offend it is the lowest. k and l are a vertex's level and layer in the
- * sheet that the call is handed; an anchored neighbor counts in 19, 20 and 21.
+ * first that fails is answered, with its place. Where several places offend it is the lowest; of several terms it is that of the first. k
+ * and l are a vertex's level and layer in the sheet that the call is handed; an anchored neighbor counts in 19, 20 and 21.
  *
  *   number  place            what is wrong
  *    1      0                starts has no element
@@ -60,19 +63,22 @@
  *    6      vertex           it is its own neighbor
  *    7      vertex           its neighbors are not strictly ascending
  *    8      vertex           it lists a neighbor that does not list it
- *    9      0                there are not n anchored bytes; in a session also: kinds, firsts and seconds are not of one length
+ *    9      0                there are not n anchored bytes; in a session also: kinds, firsts and seconds are not of one length; of terms:
+ *                            vertices, firsts and ends are not of one length
  *   10      vertex           its byte is above 1
  *   11      0                there are more than 4,096 events; in a text, more than 60 rounds
  *   12      0                a slice lent for writing does not have the length stated with the call; for a text, holds less than its sheet
  *   13      0                levels or layers are not n
  *   14      vertex           it is anchored and its entry is not 65,535 and 0, or it is not anchored and its layer is 0
- *   15      the number       x, or a number in a text's retained list, is n or more
+ *   15      the number       a term's vertex, x, or a number in a text's retained list, is n or more
  *   16      vertex           x is anchored already
  *   17      0                the text has more than 65,536 bytes
  *   18      line, from 1     the line departs from the form, is missing, or is one too many
  *   19      vertex           it has fewer than k neighbors of level k or more
  *   20      vertex           it has more than k neighbors at or above (k, l)
  *   21      vertex           l is above 1, and it has fewer than k + 1 neighbors at or above (k, l - 1)
+ *   24      0                there are more than 256 terms
+ *   25      index of a term  its end day is not after its first day
  */
 #ifndef PLANNER_H
 #define PLANNER_H
@@ -200,6 +206,26 @@ planner_answer planner_followers(
 planner_answer planner_collapse(
     const uint16_t *starts, size_t starts_len, const uint16_t *links, size_t links_len, const uint8_t *anchored, size_t anchored_len,
     const uint16_t *levels, size_t levels_len, const uint16_t *layers, size_t layers_len, size_t x, uint8_t *marks, size_t marks_len);
+
+/*
+ * The first day of a span on which the level of a vertex is under k (retainers by term): on each day exactly those vertices are anchored
+ * that have a term with first day <= day < end day. An anchored vertex is under no k. The answer is that of working out the levels of every
+ * day of the span.
+ *
+ *   starts, links  the table
+ *   vertices       at most 256 numbers, the vertex of each term; terms may overlap, also those of one vertex
+ *   firsts         a number for each term: its first day
+ *   ends           a number for each term: its end day, above its first day; on the end day the term is over
+ *   from, until    the span: the days from `from` up to, not including, `until`; it has none where until is not above from
+ *   x              a vertex
+ *   k              a level
+ *
+ * Accepted: where there is such a day, first is that day and second 1; where there is none, states no other value.
+ * Refused: 1 to 8, 9, 15 (the vertices of the terms, then x), 24, 25.
+ */
+planner_answer planner_first_day(
+    const uint16_t *starts, size_t starts_len, const uint16_t *links, size_t links_len, const uint16_t *vertices, size_t vertices_len,
+    const uint16_t *firsts, size_t firsts_len, const uint16_t *ends, size_t ends_len, uint16_t from, uint16_t until, size_t x, uint16_t k);
 
 /*
  * A session: takes events one after the other, each on what the one before left. An event anchors a vertex (retains a rider), or adds or

@@ -21,13 +21,13 @@ use Rattle.anchored.specs.Step.{above, sameInside, undisturbed, seesDist
 use Rattle.anchored.specs.Session.{Row, statusOf, rowOf, turn, after, gained}
 
 -- the graph with these neighbors of 0, of 1, and so on
-abbrev graph : List (List ℕ) → Graph
+abbrev pub graph : List (List ℕ) → Graph
 graph lists = record { size = length lists; neighbors = λ v. getD lists v [] }
 
 abbrev single : Graph
 single = graph ([] ∷ [])
 
-abbrev chain : Graph
+abbrev pub chain : Graph
 chain = graph ((1 ∷ []) ∷ (0 ∷ 2 ∷ []) ∷ (1 ∷ 3 ∷ []) ∷ (2 ∷ []) ∷ [])
 
 abbrev star : Graph

@@ -3,13 +3,12 @@ use mathlib.Core.Path.{_≡_, refl}
 use mathlib.Core.Bool.{Bool}
 use mathlib.Core.List.{List, [], _∷_}
 use Prim.Native.Nat.{ℕ}
-use lib.ListN.{length, getD, replicate}
+use lib.ListN.{length, replicate}
 use Rattle.finite.specs.Count.{tabulate, below, count, sum}
 use Rattle.finite.specs.Search.{any, all, member, firstFrom, first, largest}
 use Rattle.finite.specs.Sets.{keep, having, rounds, grow}
 use Rattle.finite.specs.Pairs.{pairLe}
 use Rattle.finite.specs.Edits.{insert, remove}
-use Rattle.anchored.specs.Graph.{Graph}
 use Rattle.anchored.specs.Edge.{linkCount}
 use Rattle.anchored.specs.Core.{batch, core, level, shell, layer, greater, higher}
 use Rattle.anchored.specs.Component.{joins, around, component, together}
@@ -17,11 +16,8 @@ use Rattle.anchored.specs.Followers.{follows, followers}
 use Rattle.anchored.specs.Yield.{bareLevel}
 use Rattle.anchored.specs.Step.{above, sameInside, undisturbed, seesDisturbed, seesNew, moved, recomputed}
 use Rattle.anchored.specs.Session.{Row, statusOf, rowOf, turn}
+use Rattle.anchored.specs.Cases.{graph}
 use Rattle.anchored.specs.Events.{eventsOf, edgeStatus, eventStatus, eventRow, eventTurn, afterEvents}
-
--- the graph with these neighbors of 0, of 1, and so on
-abbrev graph : List (List ℕ) → Graph
-graph lists = record { size = length lists; neighbors = λ v. getD lists v [] }
 
 -- from the anchors in the list: status, lifted and redone of each event, the stamps at the end, and the neighbors
 abbrev session : List (List ℕ) → List ℕ → List ℕ → List ℕ → List ℕ → List (List ℕ)

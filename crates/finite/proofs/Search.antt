@@ -11,7 +11,7 @@ use lib.ListN.{length, take, getD}
 use lib.Seq.{take-suc}
 use lib.Dec.{T, leb, ltb, eqb, leb→le, le→leb, ltb→lt, nleb→lt, nltb→le, T-not, not-T, eqb→eq, eqb-refl}
 use Rattle.finite.specs.Count.{bit, below, count, In, Distinct, tabulate}
-use Rattle.finite.specs.Search.{any, all, member, firstFrom, first, largest, greatestOf, NoneBelow, rises, ascending}
+use Rattle.finite.specs.Search.{any, all, member, firstFrom, first, largest, greatestOf, NoneBelow, NoneFrom, rises, ascending}
 use Rattle.finite.proofs.Tests.{and-i, and-l, and-r, or-l, or-r, or-e, nand, split, same, true-of, false-of, of-true, of-false, eqb-of, neqb}
 use Rattle.finite.proofs.Ordered.{ordered-of, ordered-distinct}
 use Rattle.finite.proofs.Count.{bit-yes, bit-no, in-at, at-in, in-append, in-below, count-some, count-cong, count-witness, count-strict, count-none, distinct-below}
@@ -155,7 +155,7 @@ count-less p q x n h t s e =
 -- ---- first
 
 module _ (p : ℕ → Bool) where
-  from-hit : (k i j : ℕ) → i ≤ j → j < i + k → ((m : ℕ) → i ≤ m → m < j → p m ≡ false) → p j ≡ true → firstFrom p k i ≡ j
+  pub from-hit : (k i j : ℕ) → i ≤ j → j < i + k → NoneFrom p i j → p j ≡ true → firstFrom p k i ≡ j
   unfolding firstFrom
   from-hit zero i j l h none hit = absurd (omega arith)
   from-hit (suc k) i j l h none hit =
@@ -166,14 +166,14 @@ module _ (p : ℕ → Bool) where
       rw y r)
       (eq-or-lt-of-le l)
 
-  from-none : (k i : ℕ) → ((m : ℕ) → i ≤ m → m < i + k → p m ≡ false) → firstFrom p k i ≡ i + k
+  pub from-none : (k i : ℕ) → NoneFrom p i (i + k) → firstFrom p k i ≡ i + k
   unfolding firstFrom
   from-none zero i none = omega arith
   from-none (suc k) i none =
       let y : p i ≡ false = none i (omega arith) (omega arith) in
       rw y (omega (arith, from-none k (suc i) (λ m a b. none m (omega arith) (omega arith))))
 
-  from-le : (k i : ℕ) → firstFrom p k i ≤ i + k
+  pub from-le : (k i : ℕ) → firstFrom p k i ≤ i + k
   unfolding firstFrom
   from-le zero i = omega arith
   from-le (suc k) i = at (p i) (from-le k (suc i))
@@ -182,7 +182,7 @@ module _ (p : ℕ → Bool) where
       at true ih = omega arith
       at false ih = omega arith
 
-  from-below : (k i m : ℕ) → i ≤ m → m < firstFrom p k i → p m ≡ false
+  pub from-below : (k i : ℕ) → NoneFrom p i (firstFrom p k i)
   unfolding firstFrom
   from-below zero i m l h = absurd (omega arith)
   from-below (suc k) i m l h = at (p i) refl h (from-below k (suc i) m)
@@ -191,7 +191,16 @@ module _ (p : ℕ → Bool) where
       at true e h ih = absurd (omega arith)
       at false e h ih = ⊎-elim (λ q. rw (← q) e) (λ lt. ih lt h) (eq-or-lt-of-le l)
 
-  from-passes : (k i : ℕ) → firstFrom p k i < i + k → T (p (firstFrom p k i))
+  pub from-past : (k i : ℕ) → i ≤ firstFrom p k i
+  unfolding firstFrom
+  from-past zero i = omega arith
+  from-past (suc k) i = at (p i) (from-past k (suc i))
+    where
+      at : (b : Bool) → suc i ≤ firstFrom p k (suc i) → i ≤ cond b i (firstFrom p k (suc i))
+      at true ih = omega arith
+      at false ih = omega arith
+
+  pub from-passes : (k i : ℕ) → firstFrom p k i < i + k → T (p (firstFrom p k i))
   unfolding firstFrom
   from-passes zero i h = absurd (omega arith)
   from-passes (suc k) i h = at (p i) refl h (from-passes k (suc i))

@@ -2,7 +2,7 @@
 use mathlib.Core.Path.{_≡_}
 use mathlib.Core.Bool.{Bool, true, false, cond, _&&_, _||_}
 use mathlib.Core.List.{List, [], _∷_}
-use Prim.Native.Nat.{ℕ, zero, suc, _+_, _-_, _<_}
+use Prim.Native.Nat.{ℕ, zero, suc, _+_, _-_, _≤_, _<_}
 use lib.ListN.{length, getD}
 use lib.Dec.{ltb, eqb}
 use Rattle.finite.specs.Count.{below}
@@ -41,6 +41,10 @@ greatestOf f (suc n) = cond (ltb (greatestOf f n) (f n)) (f n) (greatestOf f n)
 -- no index below i passes: what a search loop has shown at its head
 abbrev pub NoneBelow : (ℕ → Bool) → ℕ → Type 0
 NoneBelow p i = (k : ℕ) → k < i → p k ≡ false
+
+-- no index from `from` on and below i passes
+abbrev pub NoneFrom : (ℕ → Bool) → ℕ → ℕ → Type 0
+NoneFrom p from i = (k : ℕ) → from ≤ k → k < i → p k ≡ false
 
 -- the number at place i is below the next
 abbrev pub rises : List ℕ → ℕ → Bool

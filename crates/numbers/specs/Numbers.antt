@@ -16,6 +16,8 @@ use Rattle.search.specs.declared.operation.Searched.{Searched}
 use Rattle.search.specs.declared.operation.Searched.the-variants.{Found, Refused as SearchRefused}
 use Rattle.collapse.specs.declared.Collapsed.{Collapsed}
 use Rattle.collapse.specs.declared.Collapsed.the-variants.{Marked, Refused as CollapseRefused}
+use Rattle.first_day.specs.declared.Dated.{Dated}
+use Rattle.first_day.specs.declared.Dated.the-variants.{Day, Never, Refused as DayRefused}
 use Rattle.session.specs.declared.run.Ran.{Ran}
 use Rattle.session.specs.declared.run.Ran.the-variants.{Served, Refused as SessionRefused}
 use Rattle.answer.specs.declared.call.Answered.{Answered}
@@ -52,6 +54,12 @@ searchedAs (SearchRefused r) = refusedAs r
 abbrev pub collapsedAs : Collapsed → Answer
 collapsedAs (Marked size) = acceptedAs 0 0 size
 collapsedAs (CollapseRefused r) = refusedAs r
+
+-- the day and 1, or two zeros where there is none
+abbrev pub datedAs : Dated → Answer
+datedAs (Day day size) = acceptedAs day 1 size
+datedAs (Never size) = acceptedAs 0 0 size
+datedAs (DayRefused r) = refusedAs r
 
 abbrev pub ranAs : Ran → Answer
 ranAs (Served size) = acceptedAs 0 0 size

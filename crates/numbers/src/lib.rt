@@ -1,7 +1,7 @@
 // The numbers of an answer, as Rust and C get them.
 ghost use mathlib.Core.Path.{_≡_};
 ghost use Rattle.numbers.specs.Numbers.{acceptedAs, refusedAs, answeredAs};
-ghost use Rattle.numbers.specs.Numbers.{checkedAs, workedAs, levelsAs, listedAs, searchedAs, collapsedAs, ranAs};
+ghost use Rattle.numbers.specs.Numbers.{checkedAs, workedAs, levelsAs, listedAs, searchedAs, collapsedAs, datedAs, ranAs};
 
 // 0, the values of an accepted call and the size of its table, or a refusal's number and place.
 #[repr(C)]
@@ -90,6 +90,17 @@ pub fn of_collapsed(collapsed: collapse::Collapsed) -> Answer
     match collapsed {
         collapse::Collapsed::Marked(size) => accepted(0, 0, size),
         collapse::Collapsed::Refused(refusal) => refused(refusal),
+    }
+}
+
+// The day and 1, or two zeros where there is none.
+pub fn of_dated(dated: first_day::Dated) -> Answer
+    ensures { λ r. ⌜ r ≡ datedAs dated ⌝ }
+{
+    match dated {
+        first_day::Dated::Day(day, size) => accepted(day as usize, 1, size),
+        first_day::Dated::Never(size) => accepted(0, 0, size),
+        first_day::Dated::Refused(refusal) => refused(refusal),
     }
 }
 

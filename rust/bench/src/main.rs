@@ -5,6 +5,7 @@ mod clock;
 mod measures;
 mod report;
 mod sessions;
+mod terms;
 
 fn main() -> std::io::Result<()> {
     let seeds: Vec<u64> = (1..=5).collect();
@@ -13,6 +14,7 @@ fn main() -> std::io::Result<()> {
     lines.extend(measures::sheets(&seeds));
     lines.extend(measures::search(&seeds));
     lines.extend(measures::collapse(&seeds));
+    lines.extend(terms::first_day(&seeds));
     lines.extend(sessions::anchoring(&seeds));
     lines.extend(sessions::events(&seeds));
     lines.extend(measures::rounds(&seeds));

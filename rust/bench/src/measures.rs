@@ -57,18 +57,18 @@ pub fn plain(pool: &Pool) -> quick::Pool<'_> {
 }
 
 /// Levels, layers and components as the planner works them out.
-struct Sheet {
+pub struct Sheet {
     levels: Vec<u16>,
     layers: Vec<u16>,
     components: Vec<u16>,
 }
 
 impl Sheet {
-    fn room(n: usize) -> Sheet {
+    pub fn room(n: usize) -> Sheet {
         Sheet { levels: vec![0; n], layers: vec![0; n], components: vec![0; n] }
     }
 
-    fn work(&mut self, pool: &Pool) {
+    pub fn work(&mut self, pool: &Pool) {
         planner::work(input(pool), &mut self.levels, &mut self.layers, &mut self.components).unwrap();
     }
 }

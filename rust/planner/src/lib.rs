@@ -8,6 +8,7 @@ mod refusal;
 
 use exports::Answer;
 pub use refusal::Refusal;
+use std::ops::Range;
 
 impl Answer {
     /// The two values that the call states, and the size of its table.
@@ -57,6 +58,22 @@ pub struct Found {
     pub lifted: usize,
     /// The vertices that upstair walks reach, those lifted included.
     pub reached: usize,
+    pub size: Size,
+}
+
+/// A term: its vertex is anchored on the days from `first` up to, not including, `end`.
+#[derive(Clone, Copy, PartialEq, Eq, Debug)]
+pub struct Term {
+    pub vertex: u16,
+    pub first: u16,
+    pub end: u16,
+}
+
+/// The first day under a level, and the size of its table.
+#[derive(Clone, Copy, PartialEq, Eq, Debug)]
+pub struct FirstDay {
+    /// None where no day of the span is under it.
+    pub day: Option<u16>,
     pub size: Size,
 }
 
@@ -197,6 +214,22 @@ pub fn collapse(input: Input, levels: &[u16], layers: &[u16], x: usize, marks: &
         )
     }
     .size()
+}
+
+/// The first of the days on which the level of x is under k, where the terms, at most 256, say who is anchored on a day, and nobody else
+/// is. An anchored vertex is under no k.
+pub fn first_day(starts: &[u16], links: &[u16], terms: &[Term], days: Range<u16>, x: usize, k: u16) -> Result<FirstDay, Refusal> {
+    let column = |pick: fn(&Term) -> u16| terms.iter().map(pick).collect::<Vec<u16>>();
+    let [vertices, firsts, ends] = [column(|term| term.vertex), column(|term| term.first), column(|term| term.end)];
+    // SAFETY: pointers and lengths of live slices, which the call only reads; it is proved to stay in them and keeps none.
+    unsafe {
+        exports::planner_first_day(
+            starts.as_ptr(), starts.len(), links.as_ptr(), links.len(), vertices.as_ptr(), vertices.len(),
+            firsts.as_ptr(), firsts.len(), ends.as_ptr(), ends.len(), days.start, days.end, x, k,
+        )
+    }
+    .result()
+    .map(|(day, is_found, size)| FirstDay { day: (is_found == 1).then_some(day as u16), size })
 }
 
 /// A session: the table and `given`, who is anchored, are as they are at the start. The call leaves the table as the events left it, with 0

@@ -31,7 +31,7 @@ impl fmt::Display for Refusal {
             6 => write!(f, "rider {place} lists himself"),
             7 => write!(f, "the list of rider {place} is not strictly ascending"),
             8 => write!(f, "rider {place} lists a partner who does not list him"),
-            9 => f.write_str("there is not one retained byte for each rider, or the lists of events are not of one length"),
+            9 => f.write_str("there is not one retained byte for each rider, or the lists of events or of terms are not of one length"),
             10 => write!(f, "the retained byte of rider {place} is above 1"),
             11 => f.write_str("there are more than 4,096 events or more than 60 rounds"),
             12 => f.write_str("a lent slice does not have its stated length, for a session's links 16,384, or is too small for the sheet"),
@@ -44,6 +44,8 @@ impl fmt::Display for Refusal {
             19 => write!(f, "rider {place} of level k has fewer than k partners of level k or more"),
             20 => write!(f, "rider {place} of level k has more than k partners at or above his level and layer"),
             21 => write!(f, "rider {place} of level k has fewer than k + 1 partners at or above his level and the layer before his"),
+            24 => f.write_str("there are more than 256 terms"),
+            25 => write!(f, "term {place}, counted from 0, ends on its first day or before"),
             _ => write!(f, "{number} is no refusal's number"),
         }
     }

@@ -7,7 +7,7 @@ use planner::Refusal;
 use pools::{Pool, Random};
 use reference::{Anchoring, Sheet};
 use shared::cases::{Case, Defined, WRONG_ENTRIES};
-use shared::{broken, input, page_examples, small_pools, table_size, wrong_lengths, DAMAGES};
+use shared::{broken, fresh_levels, input, page_examples, small_pools, strangers, wrong_lengths, DAMAGES};
 use std::collections::{BTreeMap, BTreeSet};
 
 /// The pool with no edges at x.
@@ -27,18 +27,6 @@ fn without(pool: &Pool, x: usize) -> Pool {
     anchored.remove(x);
     links.iter_mut().for_each(|u| *u -= (*u as usize > x) as u16);
     Pool { starts, links, anchored }
-}
-
-/// The levels by the planner's own fresh working.
-fn fresh_levels(pool: &Pool) -> Vec<u16> {
-    let [mut levels, mut layers, mut components] = [0; 3].map(|_| vec![0; pool.size()]);
-    assert_eq!(planner::work(input(pool), &mut levels, &mut layers, &mut components), table_size(pool), "{pool:?}");
-    levels
-}
-
-/// Numbers that are no vertex; with only 16 or 32 bits kept some of them would be vertex 0.
-fn strangers(n: usize) -> [usize; 5] {
-    [n, n + 1, 1 << 16, 1 << 32, usize::MAX]
 }
 
 /// How many vertices were marked; and of these how many are no neighbor of x, how many fall with an anchored x, how many are in a lower

@@ -407,13 +407,13 @@ fn changed(text: &str, parse: Parse, old: &str, new: &str) -> Read<Interface> {
 }
 
 /// A type, the order of parameters, what may be written, a function left out, a field's name, a parameter's, a number for a slice, a
-/// function's name, another field: in each of the three it is told from what the others say.
+/// function's name, another field, the type of a number that is no slice: in each of the three it is told from what the others say.
 #[test]
 fn changes_are_told() {
     let rattle_b = &RATTLE[RATTLE.rfind("#[no_mangle]").unwrap()..];
     let rust_b = &RUST[RUST.find("    pub fn planner_b").unwrap()..RUST.rfind('}').unwrap()];
     let header_b = &HEADER[HEADER.find("planner_answer planner_b").unwrap()..HEADER.rfind("#ifdef").unwrap()];
-    let cases: [(&str, Parse, [(&str, &str); 9]); 3] = [
+    let cases: [(&str, Parse, [(&str, &str); 10]); 3] = [
         (RATTLE, rattle_of_two, [
             ("from: &[u16]", "from: &[u32]"),
             ("from: &[u16], to: &mut [i16]", "to: &mut [i16], from: &[u16]"),
@@ -424,6 +424,7 @@ fn changes_are_told() {
             ("from: &[u8]", "from: u8"),
             ("planner_a", "planner_d"),
             ("pub first: u64,", "pub first: u64,\n    pub second: u64,"),
+            ("y: u16", "y: usize"),
         ]),
         (RUST, rust, [
             ("from: *const u16", "from: *const u32"),
@@ -435,6 +436,7 @@ fn changes_are_told() {
             ("from: *const u8, from_len: usize", "from: u8"),
             ("planner_a", "planner_d"),
             ("pub first: u64,", "pub first: u64,\n    pub second: u64,"),
+            ("y: u16", "y: usize"),
         ]),
         (HEADER, c, [
             ("const uint16_t *from", "const uint32_t *from"),
@@ -446,6 +448,7 @@ fn changes_are_told() {
             ("const uint8_t *from, size_t from_len", "uint8_t from"),
             ("planner_a(", "planner_d("),
             ("uint64_t first;", "uint64_t first;\n    uint64_t second;"),
+            ("uint16_t y", "size_t y"),
         ]),
     ];
     let right = rattle_of_two(RATTLE).unwrap();

@@ -21,6 +21,9 @@ collapse: 0 0 0, edges 3, max_degree 2
   marks 0 0 0 1
 check_sheet: 0 0 0, edges 3, max_degree 2
 check_sheet with a layer of 9: 21 1 0, edges 0, max_degree 0
+first_day: 0 8 1, edges 3, max_degree 2
+first_day before day 8: 0 0 0, edges 3, max_degree 2
+first_day with an end of 5: 25 2 0, edges 0, max_degree 0
 run: 0 0 0, edges 3, max_degree 2
   starts 0 3 4 6 8
   links 1 2 3 0 0 3 0 2

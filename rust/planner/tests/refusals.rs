@@ -6,11 +6,13 @@ use planner::Refusal;
 use std::collections::BTreeSet;
 use std::error::Error;
 
-/// Calls answer the numbers from 1 up to this one; those that follow are statuses of events.
-const LAST: u64 = 21;
+/// The numbers that calls answer; 22 and 23 are statuses of events.
+fn numbers() -> impl Iterator<Item = u64> {
+    (1..=21).chain([24, 25])
+}
 
 /// Those whose place is not always 0.
-const PLACED: [u64; 13] = [4, 5, 6, 7, 8, 10, 14, 15, 16, 18, 19, 20, 21];
+const PLACED: [u64; 14] = [4, 5, 6, 7, 8, 10, 14, 15, 16, 18, 19, 20, 21, 25];
 
 fn words(number: u64, place: u64) -> String {
     let refusal: Box<dyn Error> = Box::new(Refusal { number, place });
@@ -20,11 +22,11 @@ fn words(number: u64, place: u64) -> String {
 #[test]
 fn every_number_has_words() {
     let unknown = |number: u64| format!("{number} is no refusal's number");
-    let all: BTreeSet<String> = (1..=LAST).map(|number| words(number, 0)).collect();
-    assert_eq!(all.len() as u64, LAST);
-    assert!((1..=LAST).all(|number| words(number, 0) != unknown(number)));
-    assert!([0, LAST + 1, LAST + 2, u64::MAX].into_iter().all(|number| words(number, 3) == unknown(number)));
-    for number in 1..=LAST {
+    let all: BTreeSet<String> = numbers().map(|number| words(number, 0)).collect();
+    assert_eq!(all.len(), numbers().count());
+    assert!(numbers().all(|number| words(number, 0) != unknown(number)));
+    assert!([0, 22, 23, 26, u64::MAX].into_iter().all(|number| words(number, 3) == unknown(number)));
+    for number in numbers() {
         let told = words(number, 777);
         assert_eq!(told.contains("777"), PLACED.contains(&number), "{told}");
     }
@@ -40,7 +42,7 @@ fn row(line: &str) -> Option<(u64, &str)> {
 fn the_header_lists_them() {
     let header = source::file("include/planner.h");
     let rows: Vec<(u64, &str)> = header.lines().filter_map(row).collect();
-    assert!(rows.iter().map(|&(number, _)| number).eq(1..=LAST), "{rows:?}");
+    assert!(rows.iter().map(|&(number, _)| number).eq(numbers()), "{rows:?}");
     let placed = rows.iter().filter(|(_, place)| *place != "0").map(|&(number, _)| number);
     assert!(placed.eq(PLACED), "{rows:?}");
 }

@@ -1,17 +1,14 @@
 //! The size of the table in the answer of every call: told by hand, also at the limits; and at a refusal, as the archive answers it,
 //! nothing of it.
 
-#[allow(dead_code)]
-#[path = "../src/exports.rs"]
-mod exports;
 mod shared;
 
-use exports::Answer;
-use planner::Size;
+use planner::{Size, Term};
 use pools::{Pool, Random};
 use reference::Event;
-use shared::input;
+use shared::exports::{self, Answer};
 use shared::sessions::Call;
+use shared::{input, terms};
 use std::collections::BTreeSet;
 
 /// What every call answers of the pool's size, in the session with these events; the search and the collapse from every vertex given.
@@ -25,6 +22,8 @@ fn answered(pool: &Pool, events: &[Event], vertices: &[usize]) -> Vec<Size> {
         Call::new(pool, events).make().unwrap(),
     ];
     for &x in vertices {
+        let first_day = |terms: &[Term]| planner::first_day(&pool.starts, &pool.links, terms, 3..9, x, 1).unwrap().size;
+        sizes.extend([first_day(&[]), first_day(&[Term { vertex: x as u16, first: 5, end: 8 }])]);
         sizes.push(planner::collapse(input(pool), &levels, &layers, x, &mut marks).unwrap());
         if pool.anchored[x] == 0 {
             sizes.push(planner::followers(input(pool), &levels, &layers, x, &mut marks).unwrap().size);
@@ -87,8 +86,8 @@ fn limits() {
     expect(1024, &edges.into_iter().collect::<Vec<_>>(), (8192, 1023));
 }
 
-/// What calls are handed and lent: slices with `room` for a number of each vertex, and for a session `places` for links, and lists of
-/// events of these lengths.
+/// What calls are handed and lent: slices with `room` for a number of each vertex, for a session `places` for links, and lists of events of
+/// these lengths, and the lists of terms.
 #[derive(Clone)]
 struct Handed {
     pool: Pool,
@@ -98,6 +97,7 @@ struct Handed {
     room: usize,
     places: usize,
     events: [usize; 3],
+    terms: [Vec<u16>; 3],
 }
 
 /// The chain 0-1-2-3 with 0 anchored.
@@ -110,6 +110,7 @@ fn sound() -> Handed {
         room: 4,
         places: 16384,
         events: [5; 3],
+        terms: [vec![0, 3, 2], vec![4, 4, 6], vec![9, 7, 7]],
     }
 }
 
@@ -160,6 +161,12 @@ impl Handed {
         }
     }
 
+    /// On the days from 4 on, under level 65,535.
+    fn first_day(&self) -> Answer {
+        let (pool, [vertices, firsts, ends]) = (self.pool.clone(), self.terms.clone());
+        terms::Call { pool, vertices, firsts, ends, days: 4..20, x: self.x, k: 65535 }.make()
+    }
+
     /// Each event drops the edge between 0 and 1, which the first of them does.
     fn run(&self) -> Answer {
         let Pool { mut starts, mut links, anchored: given } = self.pool.clone();
@@ -180,7 +187,7 @@ impl Handed {
 }
 
 /// Something wrong for each refusal.
-const DAMAGES: [fn(&mut Handed); 22] = [
+const DAMAGES: [fn(&mut Handed); 31] = [
     |handed| handed.pool.starts.clear(),
     |handed| handed.pool.starts.resize(1026, 6),
     |handed| handed.pool.links.resize(16385, 0),
@@ -203,18 +210,28 @@ const DAMAGES: [fn(&mut Handed); 22] = [
     |handed| handed.layers[1] = 9,
     |handed| handed.x = 4,
     |handed| handed.x = 0,
+    |handed| handed.terms[0].truncate(2),
+    |handed| handed.terms[0].push(1),
+    |handed| handed.terms[1].truncate(2),
+    |handed| handed.terms[1].push(5),
+    |handed| handed.terms[2].truncate(2),
+    |handed| handed.terms[2].push(9),
+    |handed| handed.terms[0][2] = 4,
+    |handed| handed.terms = [vec![1; 257], vec![5; 257], vec![9; 257]],
+    |handed| handed.terms[2][1] = 4,
 ];
 
 /// A call, what it answers where nothing is wrong, and the numbers of its refusals.
 type Told = (fn(&Handed) -> Answer, [u64; 5], &'static [u64]);
 
-const CALLS: [Told; 7] = [
+const CALLS: [Told; 8] = [
     (Handed::check, [0, 0, 0, 3, 2], &[1, 2, 3, 4, 5, 6, 7, 8]),
     (|handed| handed.filled_by(exports::planner_work), [0, 0, 0, 3, 2], &[1, 2, 3, 4, 5, 6, 7, 8, 9, 10, 12]),
     (|handed| handed.filled_by(exports::planner_list_components), [0, 1, 0, 3, 2], &[1, 2, 3, 4, 5, 6, 7, 8, 9, 10, 12]),
     (Handed::check_sheet, [0, 0, 0, 3, 2], &[1, 2, 3, 4, 5, 6, 7, 8, 9, 10, 13, 14, 19, 20, 21]),
     (|handed| handed.marked_by(exports::planner_followers), [0, 2, 2, 3, 2], &[1, 2, 3, 4, 5, 6, 7, 8, 9, 10, 12, 13, 14, 15, 16, 19, 20, 21]),
     (|handed| handed.marked_by(exports::planner_collapse), [0, 0, 0, 3, 2], &[1, 2, 3, 4, 5, 6, 7, 8, 9, 10, 12, 13, 14, 15, 19, 20, 21]),
+    (Handed::first_day, [0, 7, 1, 3, 2], &[1, 2, 3, 4, 5, 6, 7, 8, 9, 15, 24, 25]),
     (Handed::run, [0, 0, 0, 3, 2], &[1, 2, 3, 4, 5, 6, 7, 8, 9, 10, 11, 12]),
 ];
 

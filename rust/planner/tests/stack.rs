@@ -2,7 +2,7 @@
 
 mod shared;
 
-use planner::{Events, Record, Table, ADD_EDGE, ANCHOR, DROP_EDGE};
+use planner::{Events, Record, Table, Term, ADD_EDGE, ANCHOR, DROP_EDGE};
 use pools::Pool;
 use shared::input;
 use std::thread::Builder;
@@ -20,6 +20,8 @@ fn every_call(pool: &Pool) {
     planner::check_sheet(input(pool), &levels, &layers).unwrap();
     planner::followers(input(pool), &levels, &layers, 0, &mut marks).unwrap();
     planner::collapse(input(pool), &levels, &layers, 0, &mut marks).unwrap();
+    let terms: Vec<Term> = (0..256).map(|i| Term { vertex: 4 * i, first: 2 * i, end: 2 * i + 1 }).collect();
+    assert_eq!(planner::first_day(&pool.starts, &pool.links, &terms, 0..600, 1, 2).unwrap().day, None);
     let (mut lent, mut record) = (pool.lent(0), Record::room(n, 3));
     let table = Table { starts: &mut lent.starts, links: &mut lent.links };
     let events = Events { kinds: &[ANCHOR, ADD_EDGE, DROP_EDGE], firsts: &[9; 3], seconds: &[7; 3] };

@@ -1,6 +1,7 @@
-//! Pools to test and to measure by: a deterministic generator, random tables, small ones by enumeration, their texts, and events on them.
+//! Pools to test and to measure by: a deterministic generator, random tables, small ones by enumeration, their texts, and events and terms
+//! on them.
 
-use reference::{Event, PLACES};
+use reference::{Event, Term, PLACES};
 use std::collections::BTreeSet;
 use std::fs;
 use std::path::{Path, PathBuf};
@@ -165,6 +166,26 @@ impl Pool {
             events.push(Event { kind: kind as u16, first: u as u16, second: v as u16 });
         }
         events
+    }
+
+    /// So many terms that begin within so many days and end within twice as many; none where there are no vertices. Every third repeats an
+    /// earlier one, or meets it: begins on its end day, or ends on its first day.
+    pub fn random_terms(&self, random: &mut Random, length: usize, days: usize) -> Vec<Term> {
+        let mut terms: Vec<Term> = vec![];
+        for i in 0..if self.size() == 0 { 0 } else { length } {
+            let (vertex, first, lasting) = (random.below(self.size()), random.below(days), 1 + random.below(days));
+            let mut term = Term { vertex: vertex as u16, first: first as u16, end: (first + lasting) as u16 };
+            if i > 0 && random.one_in(3) {
+                let earlier = terms[random.below(i)];
+                match random.below(3) {
+                    0 => term = Term { first: earlier.end, end: earlier.end + lasting as u16, ..term },
+                    1 if earlier.first > 0 => term = Term { first: random.below(earlier.first as usize) as u16, end: earlier.first, ..term },
+                    _ => term = earlier,
+                }
+            }
+            terms.push(term);
+        }
+        terms
     }
 
     /// One or two changes that mostly break a rule.

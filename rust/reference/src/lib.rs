@@ -1,10 +1,12 @@
 //! The anchored core worked out naively from the sentences of documents 01 and 02: cores by repeated deletion, lifts and falls by a second
-//! working, sessions with everything fresh. Nothing here follows the planner's own code.
+//! working, sessions with everything fresh, terms day by day. Nothing here follows the planner's own code.
 
 pub mod quick;
 mod sessions;
+mod terms;
 
 pub use sessions::{admit_session, session, Call, Event, Plain, Record, Session, PLACES};
+pub use terms::{admit_terms, anchored_on, first_day, levels_on, Term, TermLists};
 
 use sessions::State;
 use std::cmp::Reverse;
@@ -144,24 +146,26 @@ pub fn check_sheet(graph: &Graph, anchored: &[bool], level: &[u16], layer: &[u16
     Ok(())
 }
 
-pub fn sheet(graph: &Graph, anchored: &[bool]) -> Sheet {
-    let n = graph.size();
-    let mut level = vec![ANCHORED; n];
-    let mut layer = vec![0u16; n];
-    let mut k = 0;
-    loop {
-        let start = core(graph, anchored, k);
-        if !(0..n).any(|v| start[v] && !anchored[v]) {
+/// The largest k whose core holds the vertex; 65,535 for an anchored one.
+fn levels(graph: &Graph, anchored: &[bool]) -> Vec<u16> {
+    let mut level = vec![ANCHORED; graph.size()];
+    for k in 0.. {
+        let core = core(graph, anchored, k);
+        let free: Vec<usize> = (0..graph.size()).filter(|&v| core[v] && !anchored[v]).collect();
+        if free.is_empty() {
             break;
         }
-        for v in 0..n {
-            if start[v] && !anchored[v] {
-                level[v] = k as u16;
-            }
-        }
-        k += 1;
+        free.into_iter().for_each(|v| level[v] = k as u16);
     }
-    for k in 0..k {
+    level
+}
+
+/// The batch in which the vertex goes, in the shell of its level; 0 for an anchored one.
+fn layers(graph: &Graph, anchored: &[bool], level: &[u16]) -> Vec<u16> {
+    let n = graph.size();
+    let mut layer = vec![0u16; n];
+    let shells: BTreeSet<usize> = (0..n).filter(|&v| !anchored[v]).map(|v| level[v] as usize).collect();
+    for k in shells {
         let mut present = core(graph, anchored, k);
         let mut batch = 0;
         loop {
@@ -179,6 +183,13 @@ pub fn sheet(graph: &Graph, anchored: &[bool]) -> Sheet {
             }
         }
     }
+    layer
+}
+
+pub fn sheet(graph: &Graph, anchored: &[bool]) -> Sheet {
+    let n = graph.size();
+    let level = levels(graph, anchored);
+    let layer = layers(graph, anchored, &level);
     let mut component = vec![ANCHORED; n];
     for v in 0..n {
         if anchored[v] {

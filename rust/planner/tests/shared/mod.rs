@@ -2,8 +2,11 @@
 #![allow(dead_code)]
 
 pub mod cases;
+#[path = "../../src/exports.rs"]
+pub mod exports;
 pub mod sessions;
 pub mod steps;
+pub mod terms;
 
 use planner::{Input, Refusal, Size};
 use pools::Pool;
@@ -77,6 +80,18 @@ pub fn page_examples(name: &str) -> Vec<Vec<String>> {
     let page = std::fs::read_to_string(path).unwrap();
     let rows = page.lines().filter(|line| line.starts_with("| `"));
     rows.map(|row| row.split('`').skip(1).step_by(2).map(str::to_owned).collect()).collect()
+}
+
+/// The levels by the planner's own fresh working.
+pub fn fresh_levels(pool: &Pool) -> Vec<u16> {
+    let [mut levels, mut layers, mut components] = [0; 3].map(|_| vec![0; pool.size()]);
+    assert_eq!(planner::work(input(pool), &mut levels, &mut layers, &mut components), table_size(pool), "{pool:?}");
+    levels
+}
+
+/// Numbers that are no vertex; with only 16 or 32 bits kept some of them would be vertex 0.
+pub fn strangers(n: usize) -> [usize; 5] {
+    [n, n + 1, 1 << 16, 1 << 32, usize::MAX]
 }
 
 /// The anchor set that sound bytes give.

@@ -1,6 +1,6 @@
 //! Sessions: all that a call is lent and handed, what it leaves, and what is expected of that.
 
-use super::{anchor_set, held, input, plain, refusal, size, table_size, wrong_lengths};
+use super::{anchor_set, fresh_levels, held, plain, refusal, size, table_size, wrong_lengths};
 use planner::{Events, Record, Refusal, Size, Table, LINK_PLACES};
 use pools::Pool;
 use reference::{quick, Event, Plain, Session};
@@ -143,10 +143,7 @@ impl Left {
 
     /// The table's bare levels, those with nobody anchored, as the planner works them out.
     pub fn bare_levels(&self) -> Vec<u16> {
-        let free = Pool { anchored: vec![0; self.record.anchored.len()], ..self.pool() };
-        let [mut levels, mut layers, mut components] = [0; 3].map(|_| vec![0; free.size()]);
-        assert_eq!(planner::work(input(&free), &mut levels, &mut layers, &mut components), table_size(&free));
-        levels
+        fresh_levels(&Pool { anchored: vec![0; self.record.anchored.len()], ..self.pool() })
     }
 }
 
