@@ -9,11 +9,11 @@ use lib.ListN.{length, getD, List·getD-eq-default}
 use lib.Dec.{T, leb, ltb, eqb, leb→le, le→leb, nleb→lt, ltb→lt, lt→ltb, nltb→le, eqb→eq, T-not}
 use native.Mathlib.Omega.{arith}
 use borrow.Author.Tests.{le-ltb, ltb-false}
-use Rattle.finite.specs.Count.{In, below}
+use Rattle.finite.specs.Count.{In}
 use Rattle.finite.specs.Search.{member, firstFrom, NoneFrom}
 use Rattle.finite.proofs.Tests.{and-i, and-l, and-r, or-l, or-r, split, eqb-of, true-of, false-of, of-false}
-use Rattle.finite.proofs.Count.{in-at, in-below}
-use Rattle.finite.proofs.Search.{any-i, any-e, member-i, from-le, from-below, from-past, from-passes}
+use Rattle.finite.proofs.Count.{in-at}
+use Rattle.finite.proofs.Search.{any-below-i, any-below-e, member-i, from-le, from-below, from-past, from-passes}
 use Rattle.anchored.specs.Graph.{Graph, Simple}
 use Rattle.anchored.specs.Core.{level}
 use Rattle.anchored.specs.Terms.{Terms, endsOn, nextEnd, runsFor, anchoredOn, changesOn, under, firstUnder, firstUnderOn}
@@ -56,13 +56,13 @@ module _ (t : Terms) where
   unfolding anchoredOn
   anchored-on day v = (
     λ a. (
-        let term = any-e (runsFor t day v) (below (length (t .vertices))) a in
+        let term = any-below-e (runsFor t day v) (length (t .vertices)) a in
         let i = term .0 in
         let same = and-l (eqb (getD (t .vertices) i 0) v) _ (term .2) in
         let running = and-r (eqb (getD (t .vertices) i 0) v) _ (term .2) in
-        (i, in-below (length (t .vertices)) i .0 (term .1), eqb→eq (getD (t .vertices) i 0) v same, leb→le (first i) day (and-l (leb (first i) day) _ running), ltb→lt day (end i) (and-r (leb (first i) day) _ running))
+        (i, term .1, eqb→eq (getD (t .vertices) i 0) v same, leb→le (first i) day (and-l (leb (first i) day) _ running), ltb→lt day (end i) (and-r (leb (first i) day) _ running))
         ),
-    λ m. any-i (runsFor t day v) (below (length (t .vertices))) (m .0) (in-below (length (t .vertices)) (m .0) .1 (m .1))
+    λ m. any-below-i (runsFor t day v) (length (t .vertices)) (m .0) (m .1)
         (and-i (eqb (getD (t .vertices) (m .0) 0) v) _ (eqb-of (getD (t .vertices) (m .0) 0) v (m .2)) (and-i (leb (first (m .0)) day) _ (le→leb (first (m .0)) day (m .3)) (lt→ltb day (end (m .0)) (m .4)))),
   )
 

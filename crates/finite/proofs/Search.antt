@@ -48,6 +48,12 @@ module _ (p : ℕ → Bool) where
   pub all-below-e : (n : ℕ) → T (all p (below n)) → (v : ℕ) → v < n → T (p v)
   all-below-e n t v h = all-e (below n) t v (in-below n v .1 h)
 
+  pub any-below-i : (n v : ℕ) → v < n → T (p v) → T (any p (below n))
+  any-below-i n v h t = any-i (below n) v (in-below n v .1 h) t
+
+  pub any-below-e : (n : ℕ) → T (any p (below n)) → (v : ℕ) × (v < n) × T (p v)
+  any-below-e n t = let r = any-e (below n) t in (r .0, in-below n (r .0) .0 (r .1), r .2)
+
   -- a loop over the numbers below a bound: one fails, or all pass
   pub all-below-no : (n v : ℕ) → v < n → p v ≡ false → all p (below n) ≡ false
   all-below-no n v h e = false-of (all p (below n)) (not-T (all p (below n)) (λ t. T-not (p v) (of-false (p v) e) (all-below-e n t v h)))
@@ -287,8 +293,8 @@ pub greatest : (p : ℕ → Bool) (f : ℕ → ℕ) (n v : ℕ) → v < n → T 
 greatest p f zero v h t = absurd (omega arith)
 greatest p f (suc n) v h t = split (any p (below n))
     (λ s.
-    let r = any-e p (below n) s in
-    let g = greatest p f n (r .0) (in-below n (r .0) .0 (r .1)) (r .2) in
+    let r = any-below-e p n s in
+    let g = greatest p f n (r .0) (r .1) (r .2) in
     split (p n && ltb (f (g .0)) (f n))
     (λ q.
     let more = leb→le (suc (f (g .0))) (f n) (and-r (p n) _ q) in
@@ -302,7 +308,7 @@ greatest p f (suc n) v h t = split (any p (below n))
           (λ l. g .3 u l k) (last u b),
     )))
     (λ s.
-    let only : (u : ℕ) → u < suc n → T (p u) → u ≡ n = λ u b k. ⊎-elim (λ e. e) (λ l. absurd (T-not (any p (below n)) s (any-i p (below n) u (in-below n u .1 l) k))) (last u b) in
+    let only : (u : ℕ) → u < suc n → T (p u) → u ≡ n = λ u b k. ⊎-elim (λ e. e) (λ l. absurd (T-not (any p (below n)) s (any-below-i p n u l k))) (last u b) in
     (n, omega arith, subst (λ z. T (p z)) (only v h t) t, λ u b k. omega (arith, ap f (only u b k))))
   where
     last : (u : ℕ) → u < suc n → (u ≡ n) ⊎ (u < n)

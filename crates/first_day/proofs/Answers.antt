@@ -1,5 +1,5 @@
 -- What a call that is not refused is handed, and what its answer says. Assumes nothing.
-use mathlib.Core.Path.{_≡_}
+use mathlib.Core.Path.{_≡_, refl}
 use mathlib.Core.Logic.{inl, inr}
 use mathlib.Core.List.{List, [], _∷_}
 use Prim.Native.Nat.{ℕ, _≤_, _<_}
@@ -37,15 +37,12 @@ lists-told n vs fs es x e =
     let asked = went-on (leb n x) 15 x (spansOf vs fs es) (known .1) in
     let none = none-of (outside n vs) m (omega (arith, first-le (outside n vs) m, ltb-false i m (known .0))) in (
       record {
-        firsts = each m lengths (alike .0) (length fs) (inl refl-length);
-        ends = each m lengths (alike .0) (length es) (inr (inl refl-length));
+        firsts = each m lengths (alike .0) (length fs) (inl refl);
+        ends = each m lengths (alike .0) (length es) (inr (inl refl));
         within = λ j b. leb-false n (getD vs j 0) (none j b);
       },
       leb-false n x (asked .0),
     )
-  where
-    refl-length : {k : ℕ} → k ≡ k
-    refl-length = omega arith
 
 module _ (s l vs fs es : List ℕ) (x : ℕ) (e : firstDayOf s l vs fs es x ≡ Passed) where
   -- a call that is not refused is handed a sound table, terms of its vertices, and a vertex

@@ -42,15 +42,22 @@ impl Pair {
     }
 }
 
-// Whether the level of p is higher than that of v. Levels alone are compared as pairs of layer 0.
+// Whether a level is lower than the other. Levels alone are compared as pairs of layer 0.
+pub fn is_lower(level: u16, other: u16) -> bool
+    ensures { λ r. ⌜ r ≡ ltb level other ⌝ }
+{
+    let own = Pair::new(Level(level), Layer(0));
+    let bound = Pair::new(Level(other), Layer(0));
+    !own.at_or_above(bound)
+}
+
+// Whether the level of p is higher than that of v.
 pub fn is_higher(levels: &[u16], p: usize, v: usize) -> bool
     requires { ⌜ p < length (now levels) ⌝ }
     requires { ⌜ v < length (now levels) ⌝ }
     ensures { λ r. ⌜ r ≡ ltb (getD (old levels) v 0) (getD (old levels) p 0) ⌝ }
 {
-    let own = Pair::new(Level(levels[v]), Layer(0));
-    let other = Pair::new(Level(levels[p]), Layer(0));
-    !own.at_or_above(other)
+    is_lower(levels[v], levels[p])
 }
 
 // Whether the pair of w is above that of u.

@@ -10,9 +10,6 @@ ghost use Rattle.anchored.specs.Core.{level as levelOf};
 ghost use Rattle.anchored.specs.Terms.{terms, nextEnd, runs as runsOf, firstUnder};
 ghost use Rattle.pool.specs.Input.{graphOf, anchoredBy, Admitted};
 ghost use Rattle.terms.specs.Days.{TermsBelow, Shows};
-use pool::pair::Layer;
-use pool::pair::Level;
-use pool::pair::Pair;
 
 // Whether term i runs on a day.
 fn runs(firsts: &[u16], ends: &[u16], day: u16, i: usize) -> bool
@@ -41,7 +38,7 @@ fn set_anchors(vertices: &[u16], firsts: &[u16], ends: &[u16], day: u16, bytes: 
     }
 }
 
-// Whether the level of x is under k: levels alone are compared as pairs of layer 0.
+// Whether the level of x is under k.
 fn is_under(starts: &[u16], links: &[u16], anchored: &[u8; 1024], x: usize, k: u16) -> bool
     requires { ⌜ Admitted (now starts) (now links) (now anchored) ⌝ }
     requires { ⌜ x < verticesIn (now starts) ⌝ }
@@ -50,9 +47,7 @@ fn is_under(starts: &[u16], links: &[u16], anchored: &[u8; 1024], x: usize, k: u
     let mut level = [0u16; 1024];
     let mut layer = [0u16; 1024];
     peel::peel(starts, links, anchored, &mut level, &mut layer);
-    let own = Pair::new(Level(level[x]), Layer(0));
-    let bound = Pair::new(Level(k), Layer(0));
-    !own.at_or_above(bound)
+    pool::pair::is_lower(level[x], k)
 }
 
 // The end, if it lies between the day and the next one.

@@ -1,6 +1,6 @@
 -- `first_under` meets its contract. The invariant: no day of the span before `day` is under. Assumes nothing.
-use mathlib.Core.Path.{_≡_, sym, ap, _∙_}
-use Prim.Native.Nat.{ℕ, _+_, _-_, _≤_}
+use mathlib.Core.Path.{_≡_, sym, ap, subst, _∙_}
+use Prim.Native.Nat.{ℕ, _+_, _-_, _≤_, _<_}
 use mathlib.Core.Bool.{Bool}
 use native.Mathlib.Omega.{arith}
 use lib.Dec.{ltb}
@@ -61,7 +61,12 @@ next-end-requires : tie.Need-next-end-requires Inv-loop μ-loop
 next-end-requires c κs = c .before .before .before .before .before .loop-test .taken
 
 loop-less : tie.Need-loop-less Inv-loop μ-loop
-loop-less c = let in-loop = c .before .before .before .before .before .before in omega (arith, c .next-end .ensures, next-after (entry in-loop .args .ends .now) (in-loop .before .loop .day) (entry in-loop .args .until) (in-loop .loop-test .taken), in-loop .loop-test .taken)
+loop-less c =
+    let in-loop = c .before .before .before .before .before .before in
+    let day = in-loop .before .loop .day in
+    let before = in-loop .loop-test .taken in
+    let later = subst (λ next. day < next) (sym (c .next-end .ensures)) (next-after _ day (entry in-loop .args .until) before) in
+    omega (arith, later, before)
 
 loop-again : tie.Need-loop-again Inv-loop μ-loop
 loop-again c =

@@ -1,4 +1,6 @@
 -- `pair::is_above` meets its contract. Assumes nothing.
+use mathlib.Core.Path.{ap, _∙_}
+use mathlib.Core.Bool.{not}
 use borrow.Author.Needs.{needs}
 use Rattle.pool.proofs.pair.is_above.Statement.{statement}
 use Rattle.pool.proofs.pair.is_above.Tie as tie
@@ -40,7 +42,7 @@ returns : tie.Need-returns
 returns c =
     let upper = c .before .new2 .ensures in
     let lower = c .before .before .before .before .new .ensures in
-    cc (c .at-or-above .ensures, upper .0, upper .1, lower .0, lower .1)
+    ap not (c .at-or-above .ensures) ∙ rw (upper .0, upper .1, lower .0, lower .1)
 
 pub is-above-spec : {M : Type 1} → statement M
 is-above-spec =
