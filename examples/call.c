@@ -83,6 +83,19 @@ static void terms(void)
 }
 
 /*
+ * Rider 0 is retained; he and 1 are of house 0, 2 and 3 of house 1. House 0 has one round and retains 1. House 1 has two: it retains 3, who
+ * lifts 2, and, house 0 being passed, 2. With two quotas there is no house 2.
+ */
+static void houses(void)
+{
+    static const uint16_t of[] = {0, 0, 1, 1}, wrong_of[] = {0, 0, 1, 2}, quotas[] = {1, 2};
+    uint8_t sheet[156] = {0};
+    tell("houses", planner_houses(starts, 5, links, 6, retained, 4, of, 4, quotas, 2, sheet, sizeof sheet));
+    printf("%.*s", (int)sizeof sheet, (const char *)sheet);
+    tell("houses with a house 2", planner_houses(starts, 5, links, 6, retained, 4, wrong_of, 4, quotas, 2, sheet, sizeof sheet));
+}
+
+/*
  * A week of events, rider 0 being retained. 3 is retained: 1 and 2 climb a level. 0 and 2 become partners, 1 and 2 part: 1 falls again.
  * Parting them once more is refused, and so is retaining 9, who is no rider. 0 and 3 become partners too: 0 has three now, and there are
  * four pairs, where the answer has those of the start, three and two.
@@ -130,6 +143,7 @@ int main(void)
     check();
     sheet();
     terms();
+    houses();
     session();
     text();
     return 0;

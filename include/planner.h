@@ -1,7 +1,7 @@
 /*
  * The planner: a pool of riders and their partners as a graph. It works out levels of the anchored k-core, checks them, tells whom one
- * more anchor lifts, whom a vertex takes down and on which day a vertex is first under a level, works down a list of events, and turns a
- * text into a sheet of rounds.
+ * more anchor lifts, whom a vertex takes down and on which day a vertex is first under a level, shares rounds among houses, works down a
+ * list of events, and turns a text into a sheet of rounds.
  *
  * For C99 and C++ on x86-64 Linux, with the archive libplanner_c.a (README.md says how to make it and link with it). Every function is
  * proved to answer, and to leave in the memory lent to it, exactly what is defined, whatever the numbers that it is handed, if the caller
@@ -31,6 +31,8 @@
  *   anchored (retained)  a byte for each vertex: 1 if it is anchored, 0 if not; in planner_first_day terms say it instead
  *   term                 a vertex, a first day and an end day: the vertex is anchored on every day from the first on and before the end;
  *                        days are numbered from 0 to 65,535
+ *   house                in planner_houses: the vertices are those of 1 to 16 houses, numbered from 0 on, each vertex in one
+ *   quota                of a house: how many rounds it may have, each of which anchors one of its vertices
  *   core k               the largest set of vertices in which each one that is not anchored has at least k neighbors in the set; an
  *                        anchored vertex is always in it
  *   level                of a vertex not anchored: the largest k whose core holds it
@@ -64,10 +66,10 @@
  *    7      vertex           its neighbors are not strictly ascending
  *    8      vertex           it lists a neighbor that does not list it
  *    9      0                there are not n anchored bytes; in a session also: kinds, firsts and seconds are not of one length; of terms:
- *                            vertices, firsts and ends are not of one length
+ *                            vertices, firsts and ends are not of one length; of houses also: houses is not n long
  *   10      vertex           its byte is above 1
- *   11      0                there are more than 4,096 events; in a text, more than 60 rounds
- *   12      0                a slice lent for writing does not have the length stated with the call; for a text, holds less than its sheet
+ *   11      0                there are more than 4,096 events; in a text, more than 60 rounds; of houses, the quotas sum to more than 60
+ *   12      0                a slice lent for writing does not have the length stated with the call, or holds less than the sheet
  *   13      0                levels or layers are not n
  *   14      vertex           it is anchored and its entry is not 65,535 and 0, or it is not anchored and its layer is 0
  *   15      the number       a term's vertex, x, or a number in a text's retained list, is n or more
@@ -79,6 +81,8 @@
  *   21      vertex           l is above 1, and it has fewer than k + 1 neighbors at or above (k, l - 1)
  *   24      0                there are more than 256 terms
  *   25      index of a term  its end day is not after its first day
+ *   26      0                there is no house, or there are more than 16
+ *   27      vertex           its house is not below quotas_len
  */
 #ifndef PLANNER_H
 #define PLANNER_H
@@ -226,6 +230,27 @@ planner_answer planner_collapse(
 planner_answer planner_first_day(
     const uint16_t *starts, size_t starts_len, const uint16_t *links, size_t links_len, const uint16_t *vertices, size_t vertices_len,
     const uint16_t *firsts, size_t firsts_len, const uint16_t *ends, size_t ends_len, uint16_t from, uint16_t until, size_t x, uint16_t k);
+
+/*
+ * A sheet of rounds that houses share (docs/HOUSES.md). Turns go round by house number: the first line's from house 0 on, each other line's
+ * from the house behind the one that the line before it served. A house is passed if its quota is spent or all its vertices are anchored,
+ * which takes no line; the first that is not passed is served. Of its vertices that are not anchored the line anchors the one of the
+ * greatest net yield, the lowest among equals, and is otherwise as in the sheet of a text. Once all houses are passed, every line left is
+ * that of a round with nobody left. So no house has more lines than its quota, and a house that is not to be passed before a line is served
+ * by that line or one of the next ones, within as many lines as there are houses.
+ *
+ *   starts, links  the table
+ *   anchored       n bytes: who is anchored at the start
+ *   houses         n numbers: the house of each vertex, below quotas_len
+ *   quotas         1 to 16 numbers, a quota for each house, which may be 0; they sum to at most 60
+ *   sheet          filled from the front: as many lines as the quotas sum to, each of 48 + n bytes, so that 64,320 hold every sheet
+ *
+ * Accepted: first is the sheet's length; bytes past it keep what they held.
+ * Refused: 1 to 8, 9, 10, 11, 26, 27, 12.
+ */
+planner_answer planner_houses(
+    const uint16_t *starts, size_t starts_len, const uint16_t *links, size_t links_len, const uint8_t *anchored, size_t anchored_len,
+    const uint16_t *houses, size_t houses_len, const uint16_t *quotas, size_t quotas_len, uint8_t *sheet, size_t sheet_len);
 
 /*
  * A session: takes events one after the other, each on what the one before left. An event anchors a vertex (retains a rider), or adds or

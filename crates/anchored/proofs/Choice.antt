@@ -1,75 +1,89 @@
--- The choice of a round: a vertex of the greatest net yield, the lowest such, if not all are anchored. Assumes nothing.
-use Prim.Native.Nat.{ℕ, _+_, _-_, _≤_, _<_}
+-- The choice by net yields: a vertex of the greatest one among those that pass a test, the lowest such, if there is one; a round's is among
+-- those not anchored. Assumes nothing.
+use Prim.Native.Nat.{ℕ, _≤_, _<_}
 use mathlib.Core.Path.{_≡_, sym, subst}
-use mathlib.Core.Bool.{Bool, not, _||_}
+use mathlib.Core.Bool.{Bool, not}
 use lib.Signed.{leZ}
-use lib.Dec.{T, leb, le→leb, T-not, not-T}
+use lib.Dec.{T, T-not, not-T}
 use native.Mathlib.Omega.{arith}
-use Rattle.finite.specs.Search.{first}
-use Rattle.finite.proofs.Tests.{and-i, and-l, and-r, or-l, or-r, or-e, split, false-of}
-use Rattle.finite.proofs.Search.{all-below-i, all-below-e, first-none, first-passes, first-least, greatest}
-use Rattle.finite.proofs.Signed.{sub-weights}
+use Rattle.finite.proofs.Best.{Comparing, best-i, best-passes, best-most, choice-in-best, choice-in-lowest, choice-in-le, choice-in-none, choice-in-some, choice-in-cong}
+use Rattle.finite.proofs.Signed.{leZ-total, leZ-chains}
 use Rattle.anchored.specs.Graph.{Graph, Simple}
-use Rattle.anchored.specs.Followers.{followers}
-use Rattle.anchored.specs.Yield.{climb, net, best, choice}
+use Rattle.anchored.specs.Yield.{climb, net, noMore, choiceOf, choice}
 use Rattle.anchored.proofs.Core.{level-lt}
 
 module _ (G : Graph) (A : ℕ → Bool) where
-  abbrev noMore : ℕ → ℕ → Bool
-  noMore v w = A w || leZ (net G A w) (net G A v)
+  net-order : Comparing (noMore G A)
+  net-order = record {
+    total = λ v w t. leZ-total (net G A v) (net G A w) t;
+    chains = λ u v w s t. leZ-chains (net G A u) (net G A v) (net G A w) s t;
+  }
 
-  -- a vertex is best exactly when it is not anchored and no other such vertex has a greater net yield
-  pub best-i : (v : ℕ) → T (not (A v)) → ((w : ℕ) → w < G .size → T (not (A w)) → T (leZ (net G A w) (net G A v))) → T (best G A v)
-  unfolding best
-  best-i v a f = and-i (not (A v)) _ a (all-below-i (noMore v) (G .size) (λ w b. split (A w) (or-l (A w) _) (λ t. or-r (A w) _ (f w b t))))
+  module _ (p : ℕ → Bool) where
+    -- a choice passes
+    pub choice-of-passes : choiceOf G A p < G .size → T (p (choiceOf G A p))
+    unfolding choiceOf
+    choice-of-passes h = best-passes p (noMore G A) (G .size) (choiceOf G A p) (choice-in-best p (noMore G A) (G .size) h)
 
-  pub best-free : (v : ℕ) → T (best G A v) → T (not (A v))
-  unfolding best
-  best-free v t = and-l (not (A v)) _ t
+    -- no vertex that passes has a greater net yield
+    pub choice-of-greatest : (w : ℕ) → w < G .size → T (p w) → choiceOf G A p < G .size → T (leZ (net G A w) (net G A (choiceOf G A p)))
+    unfolding choiceOf
+    choice-of-greatest w b t h = best-most p (noMore G A) (G .size) (choiceOf G A p) (choice-in-best p (noMore G A) (G .size) h) w b t
 
-  pub best-greatest : (v : ℕ) → T (best G A v) → (w : ℕ) → w < G .size → T (not (A w)) → T (leZ (net G A w) (net G A v))
-  unfolding best
-  best-greatest v t w b a = or-e (A w) _ (all-below-e (noMore v) (G .size) (and-r (not (A v)) _ t) w b) (λ q. absurd (T-not (A w) a q)) (λ q. q)
+    -- of those with as great a one it is the lowest
+    pub choice-of-lowest : (w : ℕ) → w < G .size → T (p w) → net G A w ≡ net G A (choiceOf G A p) → choiceOf G A p < G .size → choiceOf G A p ≤ w
+    unfolding choiceOf
+    choice-of-lowest w b t e h = choice-in-lowest p (noMore G A) (G .size) w
+        (best-i p (noMore G A) (G .size) w t (λ u bu tu. subst (λ z. T (leZ (net G A u) z)) (sym e) (choice-of-greatest u bu tu h)))
 
-  -- a choice is a best vertex
-  pub choice-best : choice G A < G .size → T (best G A (choice G A))
+    pub choice-of-le : choiceOf G A p ≤ G .size
+    unfolding choiceOf
+    choice-of-le = choice-in-le p (noMore G A) (G .size)
+
+    -- none passes: there is none
+    pub choice-of-none : ((v : ℕ) → v < G .size → T (not (p v))) → choiceOf G A p ≡ G .size
+    unfolding choiceOf
+    choice-of-none f = choice-in-none p (noMore G A) (G .size) f
+
+    -- one passes: there is a choice
+    pub choice-of-some : (v : ℕ) → v < G .size → T (p v) → choiceOf G A p < G .size
+    unfolding choiceOf
+    choice-of-some v b t = choice-in-some p (noMore G A) net-order (G .size) v b t
+
+  -- tests that agree on the vertices give the same choice
+  pub choice-of-cong : (p q : ℕ → Bool) → ((v : ℕ) → v < G .size → p v ≡ q v) → choiceOf G A p ≡ choiceOf G A q
+  unfolding choiceOf
+  choice-of-cong p q e = choice-in-cong p q (noMore G A) (G .size) e
+
+  -- ---- the choice of a round
+
+  pub choice-free : choice G A < G .size → T (not (A (choice G A)))
   unfolding choice
-  choice-best h = first-passes (best G A) (G .size) h
+  choice-free h = choice-of-passes (λ v. not (A v)) h
 
-  -- no vertex has a greater net yield than the choice
   pub choice-greatest : (w : ℕ) → w < G .size → T (not (A w)) → choice G A < G .size → T (leZ (net G A w) (net G A (choice G A)))
-  choice-greatest w b a h = best-greatest (choice G A) (choice-best h) w b a
+  unfolding choice
+  choice-greatest w b a h = choice-of-greatest (λ v. not (A v)) w b a h
 
-  -- of those with as great a one it is the lowest
   pub choice-lowest : (w : ℕ) → w < G .size → T (not (A w)) → net G A w ≡ net G A (choice G A) → choice G A < G .size → choice G A ≤ w
   unfolding choice
-  choice-lowest w b a e h = first-least (best G A) (G .size) w (best-i w a (λ u bu au. subst (λ z. T (leZ (net G A u) z)) (sym e) (choice-greatest u bu au h)))
+  choice-lowest w b a e h = choice-of-lowest (λ v. not (A v)) w b a e h
+
+  pub choice-le : choice G A ≤ G .size
+  unfolding choice
+  choice-le = choice-of-le (λ v. not (A v))
 
   -- all are anchored: there is none
   pub choice-none : ((v : ℕ) → v < G .size → T (A v)) → choice G A ≡ G .size
   unfolding choice
-  choice-none f = first-none (best G A) (G .size) (λ v b. false-of (best G A v) (not-T (best G A v) (λ t. T-not (A v) (best-free v t) (f v b))))
-
-module _ (G : Graph) (L : Simple G) (A : ℕ → Bool) where
-  -- no climb exceeds the number of vertices, so net yields are compared by weights
-  pub climb-le : (v : ℕ) → v < G .size → T (not (A v)) → climb G A v ≤ G .size
-  unfolding climb
-  climb-le v b a = omega (arith, level-lt G L A v b a)
-
-  pub net-weights : (k v w : ℕ) → G .size ≤ k → v < G .size → w < G .size → T (not (A v)) → T (not (A w))
-      → leZ (net G A v) (net G A w) ≡ leb (followers G A v + k - climb G A v) (followers G A w + k - climb G A w)
-  unfolding net
-  net-weights k v w h bv bw av aw =
-      sub-weights (followers G A v) (climb G A v) (followers G A w) (climb G A w) k (omega (arith, climb-le v bv av)) (omega (arith, climb-le w bw aw))
+  choice-none f = choice-of-none (λ v. not (A v)) (λ v b. not-T (not (A v)) (λ t. T-not (A v) t (f v b)))
 
   -- one vertex is not anchored: there is a choice
-  pub choice-some : (v : ℕ) → v < G .size → T (not (A v)) → (choice G A < G .size) × T (best G A (choice G A))
+  pub choice-some : (v : ℕ) → v < G .size → T (not (A v)) → choice G A < G .size
   unfolding choice
-  choice-some v b a =
-      let weight : ℕ → ℕ = λ w. followers G A w + G .size - climb G A w in
-      let g = greatest (λ w. not (A w)) weight (G .size) v b a in
-      let most : (w : ℕ) → w < G .size → T (not (A w)) → T (leZ (net G A w) (net G A (g .0))) = λ w bw aw.
-      subst T (sym (net-weights (G .size) w (g .0) (omega arith) bw (g .1) aw (g .2))) (le→leb (weight w) (weight (g .0)) (g .3 w bw aw)) in
-      let l = first-least (best G A) (G .size) (g .0) (best-i G A (g .0) (g .2) most) in
-      let h : first (best G A) (G .size) < G .size = omega (arith, g .1) in
-      (h, first-passes (best G A) (G .size) h)
+  choice-some v b a = choice-of-some (λ v. not (A v)) v b a
+
+-- no climb exceeds the number of vertices
+pub climb-le : (G : Graph) → Simple G → (A : ℕ → Bool) (v : ℕ) → v < G .size → T (not (A v)) → climb G A v ≤ G .size
+unfolding climb
+climb-le G L A v b a = omega (arith, level-lt G L A v b a)

@@ -7,6 +7,7 @@ use lib.ListN.{length, getD}
 use lib.IntN.{ℤ, pos, negsuc}
 use Rattle.finite.specs.Count.{bit, tabulate, below, count, sum}
 use Rattle.finite.specs.Search.{any, all, member, firstFrom, first, largest}
+use Rattle.finite.specs.Best.{bestIn, choiceIn}
 use Rattle.finite.specs.Falling.{select, falling}
 use Rattle.finite.specs.Sets.{keep, having, rounds, grow}
 use Rattle.finite.specs.Pairs.{pairLe}
@@ -14,7 +15,7 @@ use Rattle.anchored.specs.Graph.{Graph}
 use Rattle.anchored.specs.Core.{batch, core, level, shell, layer, greater, higher}
 use Rattle.anchored.specs.Component.{joins, around, component, together, heads, componentSize, ranked}
 use Rattle.anchored.specs.Followers.{follows, followers, followerCount, firstStep, onward, candidates, reached, mark}
-use Rattle.anchored.specs.Yield.{bareLevel, climb, net, netYield, climbed, best, choice}
+use Rattle.anchored.specs.Yield.{bareLevel, climb, net, netYield, climbed, choiceOf, choice}
 use Rattle.anchored.specs.Collapse.{falls, fallMark, exposed}
 use Rattle.anchored.specs.Sheet.{isDefined, misplaced, tooHigh, tooLow, tooLate, fits, isLocal}
 use Rattle.anchored.specs.Step.{above, sameInside, undisturbed, seesDisturbed, seesNew, moved, recomputed}
@@ -30,7 +31,7 @@ single = graph ([] ∷ [])
 abbrev pub chain : Graph
 chain = graph ((1 ∷ []) ∷ (0 ∷ 2 ∷ []) ∷ (1 ∷ 3 ∷ []) ∷ (2 ∷ []) ∷ [])
 
-abbrev star : Graph
+abbrev pub star : Graph
 star = graph ((1 ∷ 2 ∷ 3 ∷ []) ∷ (0 ∷ []) ∷ (0 ∷ []) ∷ (0 ∷ []) ∷ [])
 
 abbrev kite : Graph
@@ -39,10 +40,10 @@ kite = graph ((1 ∷ 2 ∷ 3 ∷ []) ∷ (0 ∷ 2 ∷ []) ∷ (0 ∷ 1 ∷ []) �
 abbrev broom : Graph
 broom = graph ((1 ∷ 2 ∷ 3 ∷ []) ∷ (0 ∷ 4 ∷ []) ∷ (0 ∷ []) ∷ (0 ∷ []) ∷ (1 ∷ []) ∷ [])
 
-abbrev at : List ℕ → ℕ → ℕ
+abbrev pub at : List ℕ → ℕ → ℕ
 at list i = getD list i 0
 
-abbrev among : List ℕ → ℕ → Bool
+abbrev pub among : List ℕ → ℕ → Bool
 among vertices v = member v vertices
 
 module _ (G : Graph) (A : ℕ → Bool) where
@@ -150,5 +151,5 @@ pub cases :
     × (collapse-of kite (among []) 1 ≡ (1 ∷ 0 ∷ 1 ∷ 0 ∷ []) ∷ (1 ∷ 1 ∷ 1 ∷ 0 ∷ []) ∷ [])
     × (collapse-of chain (among (0 ∷ 3 ∷ [])) 0 ≡ (0 ∷ 1 ∷ 1 ∷ 0 ∷ []) ∷ (0 ∷ 1 ∷ 1 ∷ 0 ∷ []) ∷ [])
     × (collapse-of star (among (1 ∷ [])) 1 ≡ (0 ∷ 0 ∷ 0 ∷ 0 ∷ []) ∷ (1 ∷ 0 ∷ 1 ∷ 1 ∷ []) ∷ [])
-unfolding tabulate below count sum any all firstFrom first largest select falling keep having rounds grow pairLe batch core level shell layer greater higher joins around component together heads componentSize ranked follows followers followerCount firstStep onward candidates reached mark bareLevel climb net netYield climbed best choice falls fallMark exposed isDefined misplaced tooHigh tooLow tooLate fits isLocal above sameInside undisturbed seesDisturbed seesNew moved recomputed statusOf rowOf turn after gained
+unfolding tabulate below count sum any all firstFrom first largest bestIn choiceIn select falling keep having rounds grow pairLe batch core level shell layer greater higher joins around component together heads componentSize ranked follows followers followerCount firstStep onward candidates reached mark bareLevel climb net netYield climbed choiceOf choice falls fallMark exposed isDefined misplaced tooHigh tooLow tooLate fits isLocal above sameInside undisturbed seesDisturbed seesNew moved recomputed statusOf rowOf turn after gained
 cases = (refl, refl, refl, refl, refl, refl, refl, refl, refl, refl, refl, refl, refl, refl, refl, refl, refl, refl, refl, refl, refl, refl, refl, refl, refl, refl, refl, refl, refl, refl, refl, refl, refl, refl, refl, refl, refl, refl, refl, refl, refl, refl, refl, refl, refl, refl, refl)

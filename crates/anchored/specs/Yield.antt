@@ -1,10 +1,10 @@
 -- Document 02, card 4: bare levels, net yields, and document 01's choice of a round by them.
-use mathlib.Core.Bool.{Bool, false, not, cond, _&&_, _||_}
+use mathlib.Core.Bool.{Bool, false, not, cond}
 use Prim.Native.Nat.{ℕ, _-_}
 use lib.IntN.{ℤ, pos, negsuc, _-ℤ_}
 use lib.Signed.{leZ}
 use Rattle.finite.specs.Count.{sum, below}
-use Rattle.finite.specs.Search.{all, first}
+use Rattle.finite.specs.Best.{choiceIn}
 use Rattle.anchored.specs.Graph.{Graph}
 use Rattle.anchored.specs.Core.{level}
 use Rattle.anchored.specs.Followers.{followers}
@@ -38,10 +38,14 @@ module _ (G : Graph) (A : ℕ → Bool) where
   unfoldable pub climbed : ℕ
   climbed = sum (λ v. cond (A v) 0 (climb v)) (below (G .size))
 
-  -- no vertex that is not anchored has a greater net yield than v
-  unfoldable pub best : ℕ → Bool
-  best v = not (A v) && all (λ w. A w || leZ (net w) (net v)) (below (G .size))
+  -- w has no greater net yield than v
+  abbrev pub noMore : ℕ → ℕ → Bool
+  noMore w v = leZ (net w) (net v)
 
-  -- the choice of a round: the lowest best vertex; size if all are anchored
+  -- of the vertices that pass a test the one of the greatest net yield, the lowest of equals; size if none passes
+  unfoldable pub choiceOf : (ℕ → Bool) → ℕ
+  choiceOf p = choiceIn p noMore (G .size)
+
+  -- the choice of a round: of those not anchored
   unfoldable pub choice : ℕ
-  choice = first best (G .size)
+  choice = choiceOf (λ v. not (A v))

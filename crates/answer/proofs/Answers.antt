@@ -1,5 +1,5 @@
 -- The call by its guard: what the answer says of it, what it promises where it is passed, and what the rounds then leave. Assumes nothing.
-use mathlib.Core.Path.{_≡_, refl, ap, _∙_}
+use mathlib.Core.Path.{_≡_, refl, ap}
 use mathlib.Core.List.{List}
 use Prim.Native.Nat.{ℕ, _+_, _*_, _≤_, _<_}
 use native.Mathlib.Nat.{mul-le-mul-right}
@@ -18,7 +18,7 @@ use Rattle.pool.specs.Input.{graphOf, anchoredBy, Admitted}
 use Rattle.text.specs.declared.read.Summary.{Summary}
 use Rattle.sheet.specs.Written.{Written}
 use Rattle.sheet.proofs.Lines.{sheet-length}
-use Rattle.sheet.proofs.Written.{written-parts}
+use Rattle.sheet.proofs.Written.{written-front}
 use Rattle.rounds.specs.Rounds.{roundsOf}
 use Rattle.rounds.proofs.Playing.{rounds-length}
 use Rattle.answer.specs.Answer.{sizeOf, roomOf, askedOf, textOf, roundsSheet, sheetOfText, answerOf}
@@ -42,10 +42,6 @@ module _ (t : List ℕ) (room : ℕ) where
       by-guard : (guard : Guard) → answer guard (Sheet (length (sheetOfText t))) SheetRefused ≡ Sheet size → (guard ≡ Passed) × (length (sheetOfText t) ≡ size)
       by-guard Passed e = (refl, cc)
       by-guard (Refused y) e = let z : _≡_ {A = ℕ} 0 1 = cc in absurd (omega arith)
-
--- bytes written from the first place on stand at the front
-pub written-front : {old text new : List ℕ} {end : ℕ} → Written old 0 text new end → length text ≤ length old → (end ≡ length text) × (new ≡ front text old)
-written-front {text = text} {end = end} p h = let z : end ≡ length text = omega (arith, p .ends) in (z, written-parts p (omega arith) ∙ rw z)
 
 -- the size of a sheet of at most 60 rounds is no great number
 pub size-small : (rounds n : ℕ) → rounds ≤ 60 → n < 65536 → rounds * (48 + n) < 4000000

@@ -452,3 +452,20 @@ sum-one x c (u ∷ us) d (inl e) =
 sum-one x c (u ∷ us) d (inr i) =
     let other = ap (λ b. cond b c 0) (false-of (eqb x u) (not-T (eqb x u) (λ t. d .0 (subst (λ z. In z us) (eqb→eq x u t) i)))) in
     omega (arith, other, sum-one x c us (d .1) i)
+
+-- one number of a list without repeats has its term lowered by one
+pub sum-lowered : (f : ℕ → ℕ) (x : ℕ) (l : List ℕ) → Distinct l → In x l → 0 < f x → sum (λ w. cond (eqb x w) (f w - 1) (f w)) l + 1 ≡ sum f l
+sum-lowered f x l d i h =
+    let lowered : ℕ → ℕ = λ w. cond (eqb x w) (f w - 1) (f w) in
+    let one : ℕ → ℕ = λ w. cond (eqb x w) 1 0 in
+    let parts = sum-cong f (λ w. lowered w + one w) l (λ w j. split (eqb x w)
+    (λ t. rw (true-of (eqb x w) t) (omega (arith, ap f (eqb→eq x w t))))
+    (λ t. rw (false-of (eqb x w) t) (omega arith))) in
+    omega (arith, parts, sum-add lowered one l, sum-one x 1 l d i)
+
+-- a term is at most the sum
+pub sum-term : (f : ℕ → ℕ) (x : ℕ) (l : List ℕ) → In x l → f x ≤ sum f l
+unfolding sum
+sum-term f x [] i = absurd i
+sum-term f x (u ∷ us) (inl e) = rw e (omega arith)
+sum-term f x (u ∷ us) (inr i) = omega (arith, sum-term f x us i)

@@ -2,6 +2,7 @@ pub mod Tests
 pub mod Count
 pub mod Ordered
 pub mod Search
+pub mod Best
 pub mod Falling
 pub mod Sets
 pub mod Pairs

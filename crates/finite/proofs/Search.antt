@@ -12,7 +12,7 @@ use lib.Seq.{take-suc}
 use lib.Dec.{T, leb, ltb, eqb, leb→le, le→leb, ltb→lt, nleb→lt, nltb→le, T-not, not-T, eqb→eq, eqb-refl}
 use Rattle.finite.specs.Count.{bit, below, count, In, Distinct, tabulate}
 use Rattle.finite.specs.Search.{any, all, member, firstFrom, first, largest, greatestOf, NoneBelow, NoneFrom, rises, ascending}
-use Rattle.finite.proofs.Tests.{and-i, and-l, and-r, or-l, or-r, or-e, nand, split, same, true-of, false-of, of-true, of-false, eqb-of, neqb}
+use Rattle.finite.proofs.Tests.{and-i, and-l, and-r, or-l, or-r, or-e, split, same, true-of, false-of, of-true, of-false, eqb-of, neqb}
 use Rattle.finite.proofs.Ordered.{ordered-of, ordered-distinct}
 use Rattle.finite.proofs.Count.{bit-yes, bit-no, in-at, at-in, in-append, in-below, count-some, count-cong, count-witness, count-strict, count-none, distinct-below}
 
@@ -285,34 +285,6 @@ module _ (p : ℕ → Bool) where
       go : (b : Bool) → p (suc m) ≡ b → (k ≤ m → k ≤ largest p m) → k ≤ cond b (suc m) (largest p m)
       go true e r = h
       go false e r = r (split (leb k m) (leb→le k m) (λ g. absurd (subst T e (subst (λ z. T (p z)) (omega (arith, nleb→lt k m g)) t))))
-
--- ---- a greatest value
-
--- of the numbers below n that pass, if one does, one has the greatest value
-pub greatest : (p : ℕ → Bool) (f : ℕ → ℕ) (n v : ℕ) → v < n → T (p v) → (w : ℕ) × (w < n) × T (p w) × ((u : ℕ) → u < n → T (p u) → f u ≤ f w)
-greatest p f zero v h t = absurd (omega arith)
-greatest p f (suc n) v h t = split (any p (below n))
-    (λ s.
-    let r = any-below-e p n s in
-    let g = greatest p f n (r .0) (r .1) (r .2) in
-    split (p n && ltb (f (g .0)) (f n))
-    (λ q.
-    let more = leb→le (suc (f (g .0))) (f n) (and-r (p n) _ q) in
-    (n, omega arith, and-l (p n) _ q, λ u b k. ⊎-elim (λ e. omega (arith, ap f e)) (λ l. omega (arith, g .3 u l k)) (last u b)))
-    (λ q. (
-      g .0,
-      omega (arith, g .1),
-      g .2,
-      λ u b k. ⊎-elim
-          (λ e. let less = nleb→lt (suc (f (g .0))) (f n) (nand (p n) (ltb (f (g .0)) (f n)) q (subst (λ z. T (p z)) e k)) in omega (arith, ap f e))
-          (λ l. g .3 u l k) (last u b),
-    )))
-    (λ s.
-    let only : (u : ℕ) → u < suc n → T (p u) → u ≡ n = λ u b k. ⊎-elim (λ e. e) (λ l. absurd (T-not (any p (below n)) s (any-below-i p n u l k))) (last u b) in
-    (n, omega arith, subst (λ z. T (p z)) (only v h t) t, λ u b k. omega (arith, ap f (only u b k))))
-  where
-    last : (u : ℕ) → u < suc n → (u ≡ n) ⊎ (u < n)
-    last u b = let l : u ≤ n = omega arith in eq-or-lt-of-le l
 
 -- ---- strictly ascending lists
 

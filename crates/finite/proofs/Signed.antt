@@ -1,13 +1,13 @@
--- Differences of two numbers, as signed numbers: which is greater, what they add, and their bounds. Assumes nothing.
+-- Signed numbers: their order, and differences of two numbers, what they add and their bounds. Assumes nothing.
 use mathlib.Core.Path.{_≡_, refl, sym, ap, _∙_, subst}
-use mathlib.Core.Bool.{cond}
+use mathlib.Core.Bool.{not, cond}
 use Prim.Native.Nat.{ℕ, zero, suc, _+_, _-_, _≤_, _<_, zero-le}
 use native.Mathlib.Omega.{arith}
 use lib.IntN.{ℤ, pos, negsuc, negℤ, subℕ, _+ℤ_, _-ℤ_, +ℤ-assoc, +ℤ-negℤ-cancel}
 use lib.Signed.{mag, leZ}
-use lib.Dec.{leb, ltb, leb→le, le→leb, ltb→lt, nltb→le, not-T}
+use lib.Dec.{T, ltb, leb→le, le→leb, nleb→lt, ltb→lt, nltb→le}
 use borrow.Author.Tests.{le-ltb}
-use Rattle.finite.proofs.Tests.{split, same, true-of, false-of}
+use Rattle.finite.proofs.Tests.{split, true-of, false-of}
 
 less : (a b : ℕ) → pos a -ℤ pos b ≡ subℕ a b
 less a zero = let q : pos (a + 0) ≡ pos (a - 0) = ap pos (omega arith) in rw (le-ltb a 0 zero-le) q
@@ -19,22 +19,21 @@ sub-cases C a b f g = subst C (sym (less a b)) (split (ltb a b)
     (λ t. subst (λ q. C (cond q (negsuc (b - suc a)) (pos (a - b)))) (sym (true-of (ltb a b) t)) (g (ltb→lt a b t)))
     (λ t. subst (λ q. C (cond q (negsuc (b - suc a)) (pos (a - b)))) (sym (false-of (ltb a b) t)) (f (nltb→le a b t))))
 
--- differences are compared crosswise
-leb-same : (a b c d : ℕ) → (a ≤ b → c ≤ d) → (c ≤ d → a ≤ b) → leb a b ≡ leb c d
-leb-same a b c d f g = same (leb a b) (leb c d) (λ t. le→leb c d (f (leb→le a b t))) (λ t. le→leb a b (g (leb→le c d t)))
+-- signed numbers compare, and comparisons chain
+pub leZ-total : (a b : ℤ) → T (not (leZ a b)) → T (leZ b a)
+leZ-total (pos a) (pos b) t = le→leb b a (omega (arith, nleb→lt a b t))
+leZ-total (pos a) (negsuc b) t = tt
+leZ-total (negsuc a) (pos b) t = t
+leZ-total (negsuc a) (negsuc b) t = le→leb a b (omega (arith, nleb→lt b a t))
 
-pub sub-le : (a b c d : ℕ) → leZ (pos a -ℤ pos b) (pos c -ℤ pos d) ≡ leb (a + d) (c + b)
-sub-le a b c d = sub-cases (λ z. leZ z (pos c -ℤ pos d) ≡ leb (a + d) (c + b)) a b
-    (λ h. sub-cases (λ z. leZ (pos (a - b)) z ≡ leb (a + d) (c + b)) c d
-    (λ g. leb-same (a - b) (c - d) (a + d) (c + b) (λ q. omega arith) (λ q. omega arith))
-    (λ g. sym (false-of (leb (a + d) (c + b)) (not-T (leb (a + d) (c + b)) (λ t. absurd (omega (arith, leb→le (a + d) (c + b) t)))))))
-    (λ h. sub-cases (λ z. leZ (negsuc (b - suc a)) z ≡ leb (a + d) (c + b)) c d
-    (λ g. sym (true-of (leb (a + d) (c + b)) (le→leb (a + d) (c + b) (omega arith))))
-    (λ g. leb-same (d - suc c) (b - suc a) (a + d) (c + b) (λ q. omega arith) (λ q. omega arith)))
-
--- or by weights, which take each from one bound
-pub sub-weights : (a b c d k : ℕ) → b ≤ k → d ≤ k → leZ (pos a -ℤ pos b) (pos c -ℤ pos d) ≡ leb (a + k - b) (c + k - d)
-sub-weights a b c d k h g = sub-le a b c d ∙ leb-same (a + d) (c + b) (a + k - b) (c + k - d) (λ q. omega arith) (λ q. omega arith)
+pub leZ-chains : (a b c : ℤ) → T (leZ a b) → T (leZ b c) → T (leZ a c)
+leZ-chains (pos a) (pos b) (pos c) s t = le→leb a c (omega (arith, leb→le a b s, leb→le b c t))
+leZ-chains (pos a) (pos b) (negsuc c) s t = t
+leZ-chains (pos a) (negsuc b) c s t = absurd s
+leZ-chains (negsuc a) (pos b) (pos c) s t = tt
+leZ-chains (negsuc a) (pos b) (negsuc c) s t = absurd t
+leZ-chains (negsuc a) (negsuc b) (pos c) s t = tt
+leZ-chains (negsuc a) (negsuc b) (negsuc c) s t = le→leb c a (omega (arith, leb→le b a s, leb→le c b t))
 
 -- what a difference adds to a number
 pub add-sub : (s t f c : ℕ) → t + c ≡ s + f → pos t ≡ pos s +ℤ (pos f -ℤ pos c)

@@ -1,5 +1,6 @@
 pub mod Count
 pub mod Search
+pub mod Best
 pub mod Sets
 pub mod Pairs
 pub mod Bytes

@@ -17,10 +17,11 @@ use Rattle.table.proofs.Laws.{went-on, sound}
 use Rattle.anchored.specs.Terms.{Terms, terms, changesOn, firstUnder, firstUnderOn}
 use Rattle.anchored.proofs.Terms.{changes-suffice, no-span}
 use Rattle.pool.specs.Input.{graphOf}
+use Rattle.pool.specs.Lengths.{outside}
 use Rattle.pool.proofs.Laws.{simple}
 use Rattle.pool.proofs.Lengths.{passed, each}
 use Rattle.terms.specs.Days.{TermsBelow}
-use Rattle.first_day.specs.Answers.{outside, verticesOf, spansOf, listsOf, firstDayOf, dayOf}
+use Rattle.first_day.specs.Answers.{verticesOf, spansOf, listsOf, firstDayOf, dayOf}
 use Rattle.first_day.specs.declared.Dated.the-variants.{Never}
 -- the computed cases come before the laws, so that a wrong definition is refused at a figure
 use Rattle.first_day.specs.Cases.{refusals}

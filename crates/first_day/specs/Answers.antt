@@ -10,12 +10,9 @@ use Rattle.table.specs.Guard.{refused, refuse, past}
 use Rattle.table.specs.declared.Guard.{Guard}
 use Rattle.table.specs.declared.Guard.the-variants.{Passed}
 use Rattle.table.specs.declared.size.Size.{Size}
+use Rattle.pool.specs.Lengths.{outside}
 use Rattle.first_day.specs.declared.Dated.{Dated}
 use Rattle.first_day.specs.declared.Dated.the-variants.{Day, Never}
-
--- the vertex of term i is none
-abbrev pub outside : ℕ → List ℕ → ℕ → Bool
-outside n vs i = leb n (getD vs i 0)
 
 -- the end of term i is not after its first day
 abbrev pub emptyTerm : List ℕ → List ℕ → ℕ → Bool

@@ -8,7 +8,7 @@ ghost use Rattle.table.specs.Size.{sizeOf};
 ghost use Rattle.table.specs.Guard.{answer};
 ghost use Rattle.anchored.specs.Terms.{terms, firstUnder};
 ghost use Rattle.pool.specs.Input.{graphOf};
-ghost use Rattle.first_day.specs.Answers.{outside, emptyTerm, listsOf, firstDayOf, dayOf};
+ghost use Rattle.first_day.specs.Answers.{emptyTerm, listsOf, firstDayOf, dayOf};
 ghost use Rattle.first_day.specs.declared.Dated.the-variants.{Refused};
 
 // The answer: a day or none, with the size of the table, or a refusal.
@@ -16,20 +16,6 @@ pub enum Dated {
     Day(u16, table::size::Size),
     Never(table::size::Size),
     Refused(table::Refusal),
-}
-
-// The first term whose vertex is n or more, or the number of terms.
-fn first_outside(vertices: &[u16], n: usize) -> usize
-    ensures { λ r. ⌜ r ≡ first (outside n (old vertices)) (length (old vertices)) ⌝ }
-{
-    let mut i: usize = 0;
-    while i < vertices.len() {
-        if n <= vertices[i] as usize {
-            return i;
-        }
-        i += 1;
-    }
-    i
 }
 
 // The first term whose end is not after its first day, or the number of terms.
@@ -55,7 +41,7 @@ fn test_lists(n: usize, vertices: &[u16], firsts: &[u16], ends: &[u16], x: usize
     if !pool::lent::all_are(&rest, vertices.len()) {
         return table::refused(9, 0);
     }
-    let stranger = first_outside(vertices, n);
+    let stranger = pool::lent::first_outside(vertices, n);
     if stranger < vertices.len() {
         return table::refused(15, vertices[stranger] as usize);
     }

@@ -18,6 +18,8 @@ use Rattle.collapse.specs.declared.Collapsed.{Collapsed}
 use Rattle.collapse.specs.declared.Collapsed.the-variants.{Marked, Refused as CollapseRefused}
 use Rattle.first_day.specs.declared.Dated.{Dated}
 use Rattle.first_day.specs.declared.Dated.the-variants.{Day, Never, Refused as DayRefused}
+use Rattle.houses.specs.declared.Shared.{Shared}
+use Rattle.houses.specs.declared.Shared.the-variants.{Sheet as SharedSheet, Refused as ShareRefused}
 use Rattle.session.specs.declared.run.Ran.{Ran}
 use Rattle.session.specs.declared.run.Ran.the-variants.{Served, Refused as SessionRefused}
 use Rattle.answer.specs.declared.call.Answered.{Answered}
@@ -60,6 +62,10 @@ abbrev pub datedAs : Dated → Answer
 datedAs (Day day size) = acceptedAs day 1 size
 datedAs (Never size) = acceptedAs 0 0 size
 datedAs (DayRefused r) = refusedAs r
+
+abbrev pub sharedAs : Shared → Answer
+sharedAs (SharedSheet end size) = acceptedAs end 0 size
+sharedAs (ShareRefused r) = refusedAs r
 
 abbrev pub ranAs : Ran → Answer
 ranAs (Served size) = acceptedAs 0 0 size

@@ -1,7 +1,7 @@
 // The numbers of an answer, as Rust and C get them.
 ghost use mathlib.Core.Path.{_≡_};
 ghost use Rattle.numbers.specs.Numbers.{acceptedAs, refusedAs, answeredAs};
-ghost use Rattle.numbers.specs.Numbers.{checkedAs, workedAs, levelsAs, listedAs, searchedAs, collapsedAs, datedAs, ranAs};
+ghost use Rattle.numbers.specs.Numbers.{checkedAs, workedAs, levelsAs, listedAs, searchedAs, collapsedAs, datedAs, sharedAs, ranAs};
 
 // 0, the values of an accepted call and the size of its table, or a refusal's number and place.
 #[repr(C)]
@@ -101,6 +101,15 @@ pub fn of_dated(dated: first_day::Dated) -> Answer
         first_day::Dated::Day(day, size) => accepted(day as usize, 1, size),
         first_day::Dated::Never(size) => accepted(0, 0, size),
         first_day::Dated::Refused(refusal) => refused(refusal),
+    }
+}
+
+pub fn of_shared(shared: houses::Shared) -> Answer
+    ensures { λ r. ⌜ r ≡ sharedAs shared ⌝ }
+{
+    match shared {
+        houses::Shared::Sheet(end, size) => accepted(end, 0, size),
+        houses::Shared::Refused(refusal) => refused(refusal),
     }
 }
 

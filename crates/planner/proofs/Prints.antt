@@ -11,11 +11,12 @@ use Rattle.table.proofs.Guards.{handed, cleared}
 use Rattle.io.specs.Counts.{Counts}
 use Rattle.sheet.specs.Line.{refusedLine}
 use Rattle.sheet.specs.Written.{Written}
+use Rattle.sheet.proofs.Written.{written-front}
 use Rattle.sheet.proofs.Lines.{refused-length}
 use Rattle.answer.specs.Answer.{textOf, answerOf, sheetOfText, printed}
 use Rattle.answer.specs.declared.call.Answered.{Answered}
 use Rattle.answer.specs.declared.call.Answered.the-variants.{Sheet, Refused}
-use Rattle.answer.proofs.Answers.{sheet-answer, refused-answer, written-front}
+use Rattle.answer.proofs.Answers.{sheet-answer, refused-answer}
 
 -- a text at the front is taken whole
 taken-whole : (xs before : List ℕ) {new : List ℕ} {k : ℕ} → k ≡ length xs → new ≡ front xs before → Counts k new × (take k new ≡ xs)

@@ -1,12 +1,12 @@
-// Lent slices: their lengths, refusal 12, and what is copied into them.
+// Lists and lent slices: their lengths, a number that is too great, refusal 12, and what is copied into them.
 ghost use mathlib.Core.Path.{_≡_};
 ghost use Prim.Native.Nat.{_≤_};
 ghost use lib.ListN.{length, getD};
 ghost use lib.Dec.{eqb};
 ghost use Rattle.finite.specs.Moments.{old, final};
 ghost use Rattle.finite.specs.Count.{tabulate};
-ghost use Rattle.finite.specs.Search.{all};
-ghost use Rattle.pool.specs.Lengths.{slicesOf};
+ghost use Rattle.finite.specs.Search.{all, first};
+ghost use Rattle.pool.specs.Lengths.{outside, slicesOf};
 
 // Whether every length is n.
 pub fn all_are(lengths: &[usize], n: usize) -> bool
@@ -20,6 +20,20 @@ pub fn all_are(lengths: &[usize], n: usize) -> bool
         i += 1;
     }
     true
+}
+
+// The place of the first number that is not below a bound, or the number of places.
+pub fn first_outside(numbers: &[u16], bound: usize) -> usize
+    ensures { λ r. ⌜ r ≡ first (outside bound (old numbers)) (length (old numbers)) ⌝ }
+{
+    let mut place: usize = 0;
+    while place < numbers.len() {
+        if bound <= numbers[place] as usize {
+            return place;
+        }
+        place += 1;
+    }
+    place
 }
 
 // Refusals 1 to 10, and 12 for lent slices of which not all are of n, or `Passed`.

@@ -1,4 +1,4 @@
-pub mod Choices
 pub mod Lines
 pub mod Playing
+pub mod One
 pub mod Sessions

@@ -2,6 +2,7 @@
 //! writes it with a plot to target/bench/.
 
 mod clock;
+mod houses;
 mod measures;
 mod report;
 mod sessions;
@@ -18,6 +19,7 @@ fn main() -> std::io::Result<()> {
     lines.extend(sessions::anchoring(&seeds));
     lines.extend(sessions::events(&seeds));
     lines.extend(measures::rounds(&seeds));
+    lines.extend(houses::share_rounds(&seeds));
     let table = report::table(&lines, seeds.len());
     print!("{table}");
     report::write(&table, &report::plot(&lines))

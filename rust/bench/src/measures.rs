@@ -48,7 +48,7 @@ pub fn thousand(seed: u64) -> Pool {
     Pool::random(&mut Random(seed * 7919), 1000, 5000)
 }
 
-fn input(pool: &Pool) -> Input<'_> {
+pub fn input(pool: &Pool) -> Input<'_> {
     Input { starts: &pool.starts, links: &pool.links, anchored: &pool.anchored }
 }
 

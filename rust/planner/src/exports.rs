@@ -44,6 +44,10 @@ extern "C" {
         starts: *const u16, starts_len: usize, links: *const u16, links_len: usize, vertices: *const u16, vertices_len: usize,
         firsts: *const u16, firsts_len: usize, ends: *const u16, ends_len: usize, from: u16, until: u16, x: usize, k: u16,
     ) -> Answer;
+    pub fn planner_houses(
+        starts: *const u16, starts_len: usize, links: *const u16, links_len: usize, anchored: *const u8, anchored_len: usize,
+        houses: *const u16, houses_len: usize, quotas: *const u16, quotas_len: usize, sheet: *mut u8, sheet_len: usize,
+    ) -> Answer;
     pub fn planner_run(
         starts: *mut u16, starts_len: usize, links: *mut u16, links_len: usize, given: *const u8, given_len: usize,
         kinds: *const u16, kinds_len: usize, firsts: *const u16, firsts_len: usize, seconds: *const u16, seconds_len: usize,

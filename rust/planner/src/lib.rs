@@ -77,6 +77,13 @@ pub struct FirstDay {
     pub size: Size,
 }
 
+/// A sheet that houses share: how many of the lent bytes it has, and the size of its table.
+#[derive(Clone, Copy, PartialEq, Eq, Debug)]
+pub struct Shared {
+    pub length: usize,
+    pub size: Size,
+}
+
 /// The link places of a table that is lent to a session.
 pub const LINK_PLACES: usize = 16384;
 
@@ -230,6 +237,23 @@ pub fn first_day(starts: &[u16], links: &[u16], terms: &[Term], days: Range<u16>
     }
     .result()
     .map(|(day, is_found, size)| FirstDay { day: (is_found == 1).then_some(day as u16), size })
+}
+
+/// The sheet of rounds that houses share, 1 to 16 of them: vertex v is in house `houses[v]`, and house c may have `quotas[c]` rounds, all
+/// together at most 60. House by house in turn, from 0, a line anchors the vertex of the greatest net yield in its house, the lowest among
+/// equals; a house is passed if its quota is spent or all its vertices are anchored. The sheet has as many lines as the quotas sum to, each
+/// of 48 + n bytes. Bytes past it, and at a refusal all, stay.
+pub fn share_rounds(input: Input, houses: &[u16], quotas: &[u16], sheet: &mut [u8]) -> Result<Shared, Refusal> {
+    let Input { starts, links, anchored } = input;
+    // SAFETY: pointers and lengths of live slices, no other borrow of those for writing; the call is proved to stay in them and keeps none.
+    unsafe {
+        exports::planner_houses(
+            starts.as_ptr(), starts.len(), links.as_ptr(), links.len(), anchored.as_ptr(), anchored.len(),
+            houses.as_ptr(), houses.len(), quotas.as_ptr(), quotas.len(), sheet.as_mut_ptr(), sheet.len(),
+        )
+    }
+    .result()
+    .map(|(length, _, size)| Shared { length, size })
 }
 
 /// A session: the table and `given`, who is anchored, are as they are at the start. The call leaves the table as the events left it, with 0

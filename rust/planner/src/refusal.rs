@@ -31,9 +31,9 @@ impl fmt::Display for Refusal {
             6 => write!(f, "rider {place} lists himself"),
             7 => write!(f, "the list of rider {place} is not strictly ascending"),
             8 => write!(f, "rider {place} lists a partner who does not list him"),
-            9 => f.write_str("there is not one retained byte for each rider, or the lists of events or of terms are not of one length"),
+            9 => f.write_str("there is not one retained byte, or one house, for each rider, or the lists of events or of terms are not of one length"),
             10 => write!(f, "the retained byte of rider {place} is above 1"),
-            11 => f.write_str("there are more than 4,096 events or more than 60 rounds"),
+            11 => f.write_str("there are more than 4,096 events or more than 60 rounds, those of all houses together"),
             12 => f.write_str("a lent slice does not have its stated length, for a session's links 16,384, or is too small for the sheet"),
             13 => f.write_str("the sheet has not one level and one layer for each rider"),
             14 => write!(f, "the entry of rider {place} is not 65,535 and 0 though he is retained, or has layer 0 though he is not"),
@@ -46,6 +46,8 @@ impl fmt::Display for Refusal {
             21 => write!(f, "rider {place} of level k has fewer than k + 1 partners at or above his level and the layer before his"),
             24 => f.write_str("there are more than 256 terms"),
             25 => write!(f, "term {place}, counted from 0, ends on its first day or before"),
+            26 => f.write_str("the houses are not 1 to 16"),
+            27 => write!(f, "the house of rider {place} is none of those that have a quota"),
             _ => write!(f, "{number} is no refusal's number"),
         }
     }

@@ -24,6 +24,11 @@ check_sheet with a layer of 9: 21 1 0, edges 0, max_degree 0
 first_day: 0 8 1, edges 3, max_degree 2
 first_day before day 8: 0 0 0, edges 3, max_degree 2
 first_day with an end of 5: 25 2 0, edges 0, max_degree 0
+houses: 0 156 0, edges 3, max_degree 2
+(round 01 (retain 0001) (marks ....) (redone 0002))
+(round 02 (retain 0003) (marks ..+.) (redone 0001))
+(round 03 (retain 0002) (marks ....) (redone 0000))
+houses with a house 2: 27 3 0, edges 0, max_degree 0
 run: 0 0 0, edges 3, max_degree 2
   starts 0 3 4 6 8
   links 1 2 3 0 0 3 0 2

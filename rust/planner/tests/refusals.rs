@@ -8,11 +8,11 @@ use std::error::Error;
 
 /// The numbers that calls answer; 22 and 23 are statuses of events.
 fn numbers() -> impl Iterator<Item = u64> {
-    (1..=21).chain([24, 25])
+    (1..=21).chain(24..=27)
 }
 
 /// Those whose place is not always 0.
-const PLACED: [u64; 14] = [4, 5, 6, 7, 8, 10, 14, 15, 16, 18, 19, 20, 21, 25];
+const PLACED: [u64; 15] = [4, 5, 6, 7, 8, 10, 14, 15, 16, 18, 19, 20, 21, 25, 27];
 
 fn words(number: u64, place: u64) -> String {
     let refusal: Box<dyn Error> = Box::new(Refusal { number, place });
@@ -25,7 +25,7 @@ fn every_number_has_words() {
     let all: BTreeSet<String> = numbers().map(|number| words(number, 0)).collect();
     assert_eq!(all.len(), numbers().count());
     assert!(numbers().all(|number| words(number, 0) != unknown(number)));
-    assert!([0, 22, 23, 26, u64::MAX].into_iter().all(|number| words(number, 3) == unknown(number)));
+    assert!([0, 22, 23, 28, u64::MAX].into_iter().all(|number| words(number, 3) == unknown(number)));
     for number in numbers() {
         let told = words(number, 777);
         assert_eq!(told.contains("777"), PLACED.contains(&number), "{told}");

@@ -8,7 +8,7 @@ use pools::{Pool, Random};
 use reference::Event;
 use shared::exports::{self, Answer};
 use shared::sessions::Call;
-use shared::{input, terms};
+use shared::{houses, input, terms};
 use std::collections::BTreeSet;
 
 /// What every call answers of the pool's size, in the session with these events; the search and the collapse from every vertex given.
@@ -20,6 +20,7 @@ fn answered(pool: &Pool, events: &[Event], vertices: &[usize]) -> Vec<Size> {
         planner::work(input(pool), &mut levels, &mut layers, &mut components).unwrap(),
         planner::check_sheet(input(pool), &levels, &layers).unwrap(),
         Call::new(pool, events).make().unwrap(),
+        planner::share_rounds(input(pool), &vec![1; pool.size()], &[1, 1], &mut vec![0; 2 * (48 + pool.size())]).unwrap().size,
     ];
     for &x in vertices {
         let first_day = |terms: &[Term]| planner::first_day(&pool.starts, &pool.links, terms, 3..9, x, 1).unwrap().size;
@@ -87,7 +88,7 @@ fn limits() {
 }
 
 /// What calls are handed and lent: slices with `room` for a number of each vertex, for a session `places` for links, and lists of events of
-/// these lengths, and the lists of terms.
+/// these lengths, the lists of terms, houses with their quotas, and `bytes` for a sheet.
 #[derive(Clone)]
 struct Handed {
     pool: Pool,
@@ -98,6 +99,9 @@ struct Handed {
     places: usize,
     events: [usize; 3],
     terms: [Vec<u16>; 3],
+    houses: Vec<u16>,
+    quotas: Vec<u16>,
+    bytes: usize,
 }
 
 /// The chain 0-1-2-3 with 0 anchored.
@@ -111,6 +115,9 @@ fn sound() -> Handed {
         places: 16384,
         events: [5; 3],
         terms: [vec![0, 3, 2], vec![4, 4, 6], vec![9, 7, 7]],
+        houses: vec![0, 1, 1, 0],
+        quotas: vec![1, 2],
+        bytes: 156,
     }
 }
 
@@ -167,6 +174,10 @@ impl Handed {
         terms::Call { pool, vertices, firsts, ends, days: 4..20, x: self.x, k: 65535 }.make()
     }
 
+    fn share_rounds(&self) -> Answer {
+        houses::Call { pool: self.pool.clone(), houses: self.houses.clone(), quotas: self.quotas.clone(), room: self.bytes }.make().0
+    }
+
     /// Each event drops the edge between 0 and 1, which the first of them does.
     fn run(&self) -> Answer {
         let Pool { mut starts, mut links, anchored: given } = self.pool.clone();
@@ -187,7 +198,7 @@ impl Handed {
 }
 
 /// Something wrong for each refusal.
-const DAMAGES: [fn(&mut Handed); 31] = [
+const DAMAGES: [fn(&mut Handed); 38] = [
     |handed| handed.pool.starts.clear(),
     |handed| handed.pool.starts.resize(1026, 6),
     |handed| handed.pool.links.resize(16385, 0),
@@ -219,12 +230,19 @@ const DAMAGES: [fn(&mut Handed); 31] = [
     |handed| handed.terms[0][2] = 4,
     |handed| handed.terms = [vec![1; 257], vec![5; 257], vec![9; 257]],
     |handed| handed.terms[2][1] = 4,
+    |handed| handed.houses.truncate(3),
+    |handed| handed.houses.push(0),
+    |handed| handed.houses[2] = 2,
+    |handed| handed.quotas[0] = 59,
+    |handed| handed.quotas.clear(),
+    |handed| handed.quotas = vec![1; 17],
+    |handed| handed.bytes = 155,
 ];
 
 /// A call, what it answers where nothing is wrong, and the numbers of its refusals.
 type Told = (fn(&Handed) -> Answer, [u64; 5], &'static [u64]);
 
-const CALLS: [Told; 8] = [
+const CALLS: [Told; 9] = [
     (Handed::check, [0, 0, 0, 3, 2], &[1, 2, 3, 4, 5, 6, 7, 8]),
     (|handed| handed.filled_by(exports::planner_work), [0, 0, 0, 3, 2], &[1, 2, 3, 4, 5, 6, 7, 8, 9, 10, 12]),
     (|handed| handed.filled_by(exports::planner_list_components), [0, 1, 0, 3, 2], &[1, 2, 3, 4, 5, 6, 7, 8, 9, 10, 12]),
@@ -233,6 +251,7 @@ const CALLS: [Told; 8] = [
     (|handed| handed.marked_by(exports::planner_collapse), [0, 0, 0, 3, 2], &[1, 2, 3, 4, 5, 6, 7, 8, 9, 10, 12, 13, 14, 15, 19, 20, 21]),
     (Handed::first_day, [0, 7, 1, 3, 2], &[1, 2, 3, 4, 5, 6, 7, 8, 9, 15, 24, 25]),
     (Handed::run, [0, 0, 0, 3, 2], &[1, 2, 3, 4, 5, 6, 7, 8, 9, 10, 11, 12]),
+    (Handed::share_rounds, [0, 156, 0, 3, 2], &[1, 2, 3, 4, 5, 6, 7, 8, 9, 10, 11, 12, 26, 27]),
 ];
 
 /// Each call with each thing wrong: refused, it answers 0 behind number and place; where what is wrong is not its own, it is accepted.

@@ -27,6 +27,8 @@ fn every_call(pool: &Pool) {
     let events = Events { kinds: &[ANCHOR, ADD_EDGE, DROP_EDGE], firsts: &[9; 3], seconds: &[7; 3] };
     planner::run(table, &pool.anchored, events, &mut record).unwrap();
     assert_eq!(record.status, [0; 3]);
+    let houses: Vec<u16> = (0..n as u16).map(|v| v % 16).collect();
+    assert_eq!(planner::share_rounds(input(pool), &houses, &[1; 16], &mut vec![0; 64320]).unwrap().length, 16 * (48 + n));
     planner::text_to_sheet(&pool.text(2), &mut vec![0; 64320]).unwrap();
 }
 

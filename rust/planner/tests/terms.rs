@@ -7,6 +7,7 @@ mod shared;
 use planner::{FirstDay, Refusal, Size};
 use pools::{Pool, Random};
 use reference::{quick, Term};
+use shared::faults::{self, faults, first_is_told, Fault};
 use shared::terms::{handed, Call};
 use shared::{broken, fresh_levels, page_examples, plain, strangers, table_size, DAMAGES};
 use std::cmp::Reverse;
@@ -342,19 +343,8 @@ fn no_vertex() {
     }
 }
 
-/// A fault, and what is answered where no other comes before it.
-type Fault = (u64, u64, fn(&mut Call));
-
-/// In the order of the tests, for a call on a chain of 8 vertices with three terms; those of 9 are lists of unequal length in three ways.
-const FAULTS: [Fault; 15] = [
-    (1, 0, |call| call.pool.starts.clear()),
-    (2, 0, |call| call.pool.starts.resize(1026, 14)),
-    (3, 0, |call| call.pool.links.resize(16385, 0)),
-    (4, 2, |call| call.pool.starts[2] = 0),
-    (5, 1, |call| call.pool.links[2] = 9),
-    (6, 3, |call| call.pool.links[5] = 3),
-    (7, 5, |call| call.pool.links.swap(9, 10)),
-    (8, 6, |call| call.pool.links[13] = 0),
+/// In the order of the tests, behind those of the table; those of 9 are lists of unequal length in three ways.
+const FAULTS: [Fault<Call>; 7] = [
     (9, 0, |call| call.vertices.truncate(call.vertices.len() - 1)),
     (9, 0, |call| call.firsts.push(7)),
     (9, 0, |call| call.ends.truncate(call.ends.len() - 1)),
@@ -364,26 +354,12 @@ const FAULTS: [Fault; 15] = [
     (25, 2, |call| call.ends[2] = call.firsts[2]),
 ];
 
-/// Each fault alone, every two at once, and each with all that come after it.
 #[test]
 fn several_faults() {
-    let chain = Pool::of_edges(8, (0..7).map(|v| (v, v + 1)), vec![]);
     let terms = [[0, 0, 9], [7, 1, 8], [5, 2, 4]].map(|[vertex, first, end]| Term { vertex, first, end });
-    let told = |faults: &[Fault]| {
-        let mut call = Call::new(&chain, &terms, 1..20, 3, 2);
-        // a later one first: it may not find its place once an earlier one has been at work
-        faults.iter().rev().for_each(|(_, _, fault)| fault(&mut call));
-        day_of(&call)
-    };
-    assert_eq!(told(&[]), Ok(Some(8)));
-    for (i, &fault) in FAULTS.iter().enumerate() {
-        let first = Err((fault.0, fault.1));
-        assert_eq!(told(&[fault]), first);
-        for &other in &FAULTS[i + 1..] {
-            assert_eq!(told(&[fault, other]), first, "and {}", other.0);
-        }
-        assert_eq!(told(&FAULTS[i..]), first);
-    }
+    let call = Call::new(&faults::chain(vec![]), &terms, 1..20, 3, 2);
+    assert_eq!(day_of(&call), Ok(Some(8)));
+    first_is_told(&faults(&FAULTS), &call, day_of);
 }
 
 /// Every way for three lists to be of unequal length, up to 3 terms, and of 256 and 257; without terms too where they are equal.

@@ -6,14 +6,14 @@ mod shared;
 use planner::Refusal;
 use pools::{Pool, Random};
 use reference::quick;
-use shared::{greatest_yield, least_yield, refusal, small_pools};
+use shared::{greatest_yield, held_bytes, least_yield, refusal, small_pools};
 use std::collections::BTreeMap;
 
 const LONGEST: usize = 64320;
 
 /// The call with some room; bytes that it has no business with must stay.
 fn call(text: &[u8], room: usize) -> Result<Vec<u8>, Refusal> {
-    let held: Vec<u8> = (0..room).map(|i| 128 + (i % 101) as u8).collect();
+    let held = held_bytes(room);
     let mut sheet = held.clone();
     let answer = planner::text_to_sheet(text, &mut sheet);
     let written = *answer.as_ref().unwrap_or(&0);

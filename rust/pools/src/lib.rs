@@ -1,5 +1,5 @@
-//! Pools to test and to measure by: a deterministic generator, random tables, small ones by enumeration, their texts, and events and terms
-//! on them.
+//! Pools to test and to measure by: a deterministic generator, random tables, small ones by enumeration, their texts, and events, terms and
+//! houses on them.
 
 use reference::{Event, Term, PLACES};
 use std::collections::BTreeSet;
@@ -186,6 +186,22 @@ impl Pool {
             terms.push(term);
         }
         terms
+    }
+
+    /// The house of each vertex, of up to 16 houses, and their quotas, up to so many rounds in all. Shares are uneven: some houses have no
+    /// vertex, and few of these a round; others have no round.
+    pub fn random_houses(&self, random: &mut Random, rounds: usize) -> (Vec<u16>, Vec<u16>) {
+        let number = 1 + random.below(16);
+        let mut order: Vec<u16> = (0..number as u16).collect();
+        random.shuffle(&mut order);
+        let peopled = 1 + random.below(number);
+        let houses: Vec<u16> = (0..self.size()).map(|_| order[random.below(peopled).min(random.below(peopled))]).collect();
+        let mut quotas = vec![0; number];
+        for _ in 0..random.below(rounds + 1) {
+            let house = if houses.is_empty() || random.one_in(6) { order[random.below(number)] } else { houses[random.below(houses.len())] };
+            quotas[house as usize] += 1;
+        }
+        (houses, quotas)
     }
 
     /// One or two changes that mostly break a rule.

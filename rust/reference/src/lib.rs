@@ -1,10 +1,12 @@
 //! The anchored core worked out naively from the sentences of documents 01 and 02: cores by repeated deletion, lifts and falls by a second
-//! working, sessions with everything fresh, terms day by day. Nothing here follows the planner's own code.
+//! working, sessions with everything fresh, terms day by day, houses line by line. Nothing here follows the planner's own code.
 
+mod houses;
 pub mod quick;
 mod sessions;
 mod terms;
 
+pub use houses::{admit_houses, share_rounds, Houses};
 pub use sessions::{admit_session, session, Call, Event, Plain, Record, Session, PLACES};
 pub use terms::{admit_terms, anchored_on, first_day, levels_on, Term, TermLists};
 
@@ -316,9 +318,9 @@ fn net_yield(graph: &Graph, at: &Anchoring, bare: &[u16], x: usize) -> i16 {
     count(&followers(at, &at.with(graph, x))) as i16 - climb
 }
 
-/// The vertex a round anchors, if anyone is left: of greatest net yield, the lowest among equals.
-fn choice(state: &State) -> Option<usize> {
-    let free = || (0..state.graph.size()).filter(|&v| !state.at.anchored[v]);
+/// The vertex a round anchors, if any of those it may choose is left: of greatest net yield, the lowest among equals.
+fn choice(state: &State, may_choose: &dyn Fn(usize) -> bool) -> Option<usize> {
+    let free = || (0..state.graph.size()).filter(|&v| !state.at.anchored[v] && may_choose(v));
     let best = free().map(|v| state.yields()[v]).max()?;
     free().find(|&v| state.yields()[v] == best)
 }
@@ -335,7 +337,7 @@ pub fn rounds(graph: &Graph, start: &[bool], number: usize) -> Vec<u8> {
     let mut state = State::new(graph.clone(), start);
     let mut out = String::new();
     for r in 1..=number {
-        match choice(&state) {
+        match choice(&state, &|_| true) {
             Some(x) => {
                 let event = Event::anchor(x as u16);
                 let next = state.after(event);

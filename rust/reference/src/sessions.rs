@@ -219,13 +219,13 @@ struct Step {
     next: usize,
 }
 
-/// A plain session on its way through a list of events.
+/// A plain session on its way through a list of events. Of each event it has status, lifted and redone.
 #[derive(Clone)]
 pub struct Session {
     size: Size,
     state: usize,
     stamps: Vec<u16>,
-    rows: Vec<[u16; 3]>,
+    pub(crate) rows: Vec<[u16; 3]>,
 }
 
 /// Plain sessions. Each table with its anchors, and each event on it, is worked out once, however many sessions come by.
@@ -289,9 +289,14 @@ impl Plain {
         session
     }
 
+    /// What is defined where the session stands.
+    pub(crate) fn at(&self, session: &Session) -> &State {
+        &self.states[session.state]
+    }
+
     /// What the events so far leave.
     pub fn record(&self, session: &Session) -> Record {
-        let state = &self.states[session.state];
+        let state = self.at(session);
         let (mut starts, mut links) = (vec![0], vec![]);
         for list in &state.graph.neighbors {
             links.extend(list.iter().map(|&u| u as u16));

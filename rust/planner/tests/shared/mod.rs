@@ -4,6 +4,8 @@
 pub mod cases;
 #[path = "../../src/exports.rs"]
 pub mod exports;
+pub mod faults;
+pub mod houses;
 pub mod sessions;
 pub mod steps;
 pub mod terms;
@@ -33,6 +35,11 @@ pub fn table_size(pool: &Pool) -> Result<Size, Refusal> {
 /// A slice's contents that no answer gives by chance.
 pub fn held(len: usize, salt: u16) -> Vec<u16> {
     (0..len).map(|i| 40000 + salt * 1100 + i as u16).collect()
+}
+
+/// Bytes that no sheet has.
+pub fn held_bytes(len: usize) -> Vec<u8> {
+    (0..len).map(|i| 128 + (i % 101) as u8).collect()
 }
 
 /// Every graph of up to `most` vertices with every anchor set, none twice. On n vertices there are 2^(n(n-1)/2) graphs, each with 2^n
@@ -74,10 +81,14 @@ pub fn plain(pool: &Pool) -> quick::Pool<'_> {
     quick::Pool { starts: &pool.starts, links: &pool.links }
 }
 
-/// The examples of a page of docs/: of each row of its table what stands between backquotes.
+/// A page of docs/.
+pub fn page(name: &str) -> String {
+    std::fs::read_to_string(std::path::Path::new(env!("CARGO_MANIFEST_DIR")).join("../../docs").join(name)).unwrap()
+}
+
+/// Its examples: of each row of its table what stands between backquotes.
 pub fn page_examples(name: &str) -> Vec<Vec<String>> {
-    let path = std::path::Path::new(env!("CARGO_MANIFEST_DIR")).join("../../docs").join(name);
-    let page = std::fs::read_to_string(path).unwrap();
+    let page = page(name);
     let rows = page.lines().filter(|line| line.starts_with("| `"));
     rows.map(|row| row.split('`').skip(1).step_by(2).map(str::to_owned).collect()).collect()
 }

@@ -1,6 +1,7 @@
 //! Calls about terms: all that one is handed, and what is expected of it.
 
 use super::exports::{self, Answer};
+use super::faults::OnTable;
 use super::{refusal, size};
 use planner::{FirstDay, Refusal, Size};
 use pools::Pool;
@@ -22,6 +23,12 @@ pub struct Call {
     pub days: Range<u16>,
     pub x: usize,
     pub k: u16,
+}
+
+impl OnTable for Call {
+    fn pool(&mut self) -> &mut Pool {
+        &mut self.pool
+    }
 }
 
 impl Call {

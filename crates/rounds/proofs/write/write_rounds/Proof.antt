@@ -1,79 +1,49 @@
--- `write::write_rounds` meets its contract. The invariant: the first i rounds are played and written. Assumes nothing.
-use mathlib.Core.Path.{_≡_, subst}
-use Prim.Native.Nat.{_-_, _≤_}
+-- `write::write_rounds` meets its contract: the lines of one house that has every vertex are the rounds. Assumes nothing.
+use mathlib.Core.Path.{refl, ap}
+use mathlib.Core.List.{List, [], _∷_}
+use Prim.Native.Nat.{ℕ}
 use native.Mathlib.Omega.{arith}
+use lib.ListN.{replicate}
 use borrow.Author.Needs.{needs}
+use Rattle.finite.proofs.Count.{zeros-at}
 use Rattle.table.specs.Table.{vertices}
 use Rattle.pool.specs.Input.{graphOf, anchoredBy}
 use Rattle.sheet.specs.Line.{sheetOf}
-use Rattle.sheet.specs.Written.{Written}
-use Rattle.rounds.specs.Rounds.{roundsOf}
-use Rattle.rounds.proofs.Playing.{Playing, playing-none, playing-more, playing-room, playing-length}
+use Rattle.sheet.proofs.Written.{written-as}
+use Rattle.turns.specs.Turns.{housesBy, quotaBy}
+use Rattle.rounds.proofs.One.{one-rounds}
 use Rattle.rounds.proofs.write.write_rounds.Statement.{statement}
 use Rattle.rounds.proofs.write.write_rounds.Tie as tie
 
-abbrev Inv-loop : tie.InvT-loop
-Inv-loop starts links given rounds out₀ kept₀ at₀ i₀ out kept at i = (i ≤ rounds) × Playing starts links given out₀ out kept at i
+abbrev house : List ℕ
+house = replicate 1024 0
 
-abbrev μ-loop : tie.MeasureT-loop
-μ-loop starts links given rounds out₀ kept₀ at₀ i₀ out kept at i = rounds - i
+slice-aggregate-write-shared : tie.Need-slice-aggregate-write-shared
+slice-aggregate-write-shared c = search needs
 
--- the entry, seen from the loop's head
-abbrev entry : tie.At-loop Inv-loop μ-loop → tie.Start Inv-loop μ-loop
-entry c = c .before .before .before .before .before .before
+slice-aggregate-write-shared-2 : tie.Need-slice-aggregate-write-shared-2
+slice-aggregate-write-shared-2 c = search needs
 
-begin-requires : tie.Need-begin-requires Inv-loop μ-loop
-begin-requires c κs =
-    let pre = c .before .before .before .before .pre in
-    (pre .0, pre .1 .0)
+write-shared-requires : tie.Need-write-shared-requires
+write-shared-requires c κs =
+    let pre = c .before .before .before .before .before .before .before .pre in
+    (pre .0, (pre .1 .0, (pre .0 .table .small, (omega arith, (omega arith, pre .1 .1)))))
 
-loop-holds : tie.Need-loop-holds Inv-loop μ-loop
-loop-holds c = (omega arith, playing-none (c .begin .ensures))
+same-length : tie.Need-same-length
+same-length c = search needs
 
-add-play : tie.Need-add-play Inv-loop μ-loop
-add-play c = search needs
-
-play-requires : tie.Need-play-requires Inv-loop μ-loop
-play-requires c κs =
-    let head = c .before .before in
-    let now = head .loop .inv .1 in
-    (now .keeps .right, playing-room now _ (c .before .loop-test .taken) (entry head .pre .1 .1))
-
-add-i : tie.Need-add-i Inv-loop μ-loop
-add-i c = omega (arith, c .before .before .before .before .before .loop-test .taken, entry (c .before .before .before .before .before .before) .fits)
-
-loop-less : tie.Need-loop-less Inv-loop μ-loop
-loop-less c = search needs
-
-loop-again : tie.Need-loop-again Inv-loop μ-loop
-loop-again c =
-    let head = c .before .before .before .before .before .before in
-    let round = c .before .before .before .play .ensures in
-    (omega (arith, c .before .before .before .before .before .loop-test .taken), playing-more (head .loop .inv .1) (round .0) (round .1))
-
-same-length : tie.Need-same-length Inv-loop μ-loop
-same-length c = playing-length (c .before .loop .inv .1)
-
-returns : tie.Need-returns Inv-loop μ-loop
+returns : tie.Need-returns
 returns c =
-    let head = c .before in
-    let args = entry head .args in
-    let lines = roundsOf (graphOf (args .starts .now) (args .links .now)) (anchoredBy (args .given .now)) in
-    let end : head .loop .i ≡ args .rounds = omega (arith, head .loop .inv .0, c .loop-test .left) in
-    subst (λ k. Written (args .out .now) 0 (sheetOf (vertices (args .starts .now)) (lines k)) (head .loop .out) (head .loop .at)) end (head .loop .inv .1 .sheet)
+    let args = c .before .before .before .before .before .before .before .before .before .before .args in
+    let alone = one-rounds (graphOf (args .starts .now) (args .links .now)) (housesBy house 1) (quotaBy (args .rounds ∷ [])) (anchoredBy (args .given .now)) refl (λ v h. zeros-at 1024 v) in
+    written-as (ap (sheetOf (vertices (args .starts .now))) (alone (args .rounds) (omega arith))) (c .before .before .write-shared .ensures)
 
 pub write-rounds-spec : {M : Type 1} → statement M
 write-rounds-spec =
     tie.close
     (tie.spec
-    Inv-loop
-    μ-loop
-    begin-requires
-    loop-holds
-    add-play
-    play-requires
-    add-i
-    loop-less
-    loop-again
+    slice-aggregate-write-shared
+    slice-aggregate-write-shared-2
+    write-shared-requires
     same-length
     returns)

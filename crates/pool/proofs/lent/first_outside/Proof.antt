@@ -1,4 +1,4 @@
--- `first_outside` meets its contract. The invariant: no term before i has a vertex of n or more. Assumes nothing.
+-- `lent::first_outside` meets its contract. The invariant: every number before the place is below the bound. Assumes nothing.
 use mathlib.Core.Path.{_≡_, sym, _∙_}
 use Prim.Native.Nat.{_-_, _≤_}
 use native.Mathlib.Omega.{arith}
@@ -8,15 +8,15 @@ use borrow.Author.Tests.{le-leb, lt-leb}
 use borrow.Author.Needs.{needs}
 use Rattle.finite.specs.Search.{NoneBelow}
 use Rattle.finite.proofs.Search.{first-hit, first-none}
-use Rattle.first_day.specs.Answers.{outside}
-use Rattle.first_day.proofs.first_outside.Statement.{statement}
-use Rattle.first_day.proofs.first_outside.Tie as tie
+use Rattle.pool.specs.Lengths.{outside}
+use Rattle.pool.proofs.lent.first_outside.Statement.{statement}
+use Rattle.pool.proofs.lent.first_outside.Tie as tie
 
 abbrev Inv-loop : tie.InvT-loop
-Inv-loop vertices n i₀ i = (i ≤ length vertices) × NoneBelow (outside n vertices) i
+Inv-loop numbers bound place₀ place = (place ≤ length numbers) × NoneBelow (outside bound numbers) place
 
 abbrev μ-loop : tie.MeasureT-loop
-μ-loop vertices n i₀ i = length vertices - i
+μ-loop numbers bound place₀ place = length numbers - place
 
 loop-holds : tie.Need-loop-holds Inv-loop μ-loop
 loop-holds c = (search needs, λ k h. absurd (omega arith))
@@ -28,13 +28,13 @@ shared-slice-read-if1 : tie.Need-shared-slice-read-if1 Inv-loop μ-loop
 shared-slice-read-if1 c = search needs
 
 cast-if1 : tie.Need-cast-if1 Inv-loop μ-loop
-cast-if1 c = omega (arith, c .shared-slice-known .given (c .before .before .loop .i))
+cast-if1 c = omega (arith, c .shared-slice-known .given (c .before .before .loop .place))
 
 returns : tie.Need-returns Inv-loop μ-loop
 returns c = sym (first-hit _ _ _ (c .before .before .before .loop .inv .1) (omega arith) (le-leb _ _ (c .if1 .taken)))
 
-add-i : tie.Need-add-i Inv-loop μ-loop
-add-i c = search needs
+add-place : tie.Need-add-place Inv-loop μ-loop
+add-place c = search needs
 
 loop-less : tie.Need-loop-less Inv-loop μ-loop
 loop-less c = search needs
@@ -44,7 +44,7 @@ loop-again c = (search needs, below-more _ _ (c .before .before .before .loop .i
 
 returns-2 : tie.Need-returns-2 Inv-loop μ-loop
 returns-2 c =
-    let e : c .before .loop .i ≡ length (c .before .before .args .vertices .now) = omega arith in
+    let e : c .before .loop .place ≡ length (c .before .before .args .numbers .now) = omega arith in
     e ∙ sym (first-none _ _ (rw e at (c .before .loop .inv .1)))
 
 pub first-outside-spec : {M : Type 1} → statement M
@@ -58,7 +58,7 @@ first-outside-spec =
     shared-slice-read-if1
     cast-if1
     returns
-    add-i
+    add-place
     loop-less
     loop-again
     returns-2)

@@ -1,5 +1,5 @@
--- The choice of a round: the loop that finds it, and that the net yields of a right record give the defined one. Assumes nothing.
-use mathlib.Core.Path.{_≡_, refl, sym, ap, _∙_, subst}
+-- The choice of a house: the loop that finds it, and that the net yields of a right record give the defined one. Assumes nothing.
+use mathlib.Core.Path.{_≡_, refl, sym, ap, _∙_, ap₂, subst}
 use mathlib.Core.Logic.{⊎-elim}
 use mathlib.Core.Bool.{Bool, false, not, cond}
 use mathlib.Core.List.{List}
@@ -8,23 +8,28 @@ use native.Mathlib.Nat.{eq-or-lt-of-le}
 use native.Mathlib.Omega.{arith}
 use lib.IntN.{ℤ, pos, negsuc}
 use lib.Signed.{leZ, ltZ, _≤ℤ_, _<ℤ_, leZ-yes, ltZ-yes, ltZ-no, ≤ℤ-refl, <ℤ-≤ℤ-trans, <ℤ-irrefl, clashℤ}
-use lib.Dec.{T, le→leb, ltb→lt, lt→ltb, not-T}
+use lib.ListN.{getD}
+use lib.Dec.{T, eqb, le→leb, ltb→lt, lt→ltb, not-T}
 use borrow.Author.Count.{below-more}
-use Rattle.finite.proofs.Tests.{and-i, and-l, and-r, split, same, true-of, false-of}
+use Rattle.finite.specs.Best.{bestIn, choiceIn}
+use Rattle.finite.proofs.Tests.{and-i, and-l, and-r, nand, not-not, split, same, true-of, false-of}
 use Rattle.finite.proofs.Search.{all-below-i, all-below-e, first-hit, first-none, first-cong}
+use Rattle.finite.proofs.Best.{best-i, best-passes, best-most}
 use Rattle.finite.proofs.Signed.{sub-cases}
 use Rattle.table.specs.Table.{vertices}
 use Rattle.anchored.specs.Graph.{Graph}
 use Rattle.anchored.specs.Followers.{followers}
-use Rattle.anchored.specs.Yield.{least, climb, net, netYield, best, choice}
-use Rattle.anchored.proofs.Choice.{best-i, best-free, best-greatest, climb-le}
+use Rattle.anchored.specs.Yield.{least, climb, net, netYield, noMore, choiceOf}
+use Rattle.anchored.specs.Houses.{freeIn}
+use Rattle.anchored.proofs.Choice.{climb-le}
 use Rattle.pool.specs.Input.{graphOf, anchoredBy}
 use Rattle.pool.proofs.Laws.{simple}
 use Rattle.records.specs.Record.{Right}
 use Rattle.records.specs.Yield.{yieldAt}
 use Rattle.records.specs.declared.Record.{Record}
 use Rattle.records.proofs.Nets.{right-yield}
-use Rattle.rounds.specs.Rounds.{bestBy, choiceBy}
+use Rattle.turns.specs.Choice.{bestBy, choiceBy, yieldIn}
+use Rattle.turns.specs.Turns.{housesBy}
 
 -- ---- the order of signed numbers
 
@@ -114,47 +119,62 @@ module _ (n : ℕ) (yield : ℕ → ℤ) where
       refused : (w : ℕ) → (T (bestBy n yield w) → ⊥) → bestBy n yield w ≡ false
       refused w f = false-of (bestBy n yield w) (not-T (bestBy n yield w) f)
 
--- ---- the yields of a right record are the net yields, so its choice is the defined one
+-- ---- the yields of a right record are the net yields, so a house's choice by them is the defined one
 
-module _ {s l : List ℕ} {kept : Record} (right : Right s l kept) where
+module _ {s l : List ℕ} {kept : Record} (right : Right s l kept) (hs : List ℕ) (c : ℕ) where
   abbrev G : Graph
   G = graphOf s l
 
   abbrev A : ℕ → Bool
   A = anchoredBy (kept .anchored)
 
-  abbrev Free : ℕ → Type 0
-  Free v = T (not (A v))
+  -- whom the house may anchor
+  abbrev free : ℕ → Bool
+  free = freeIn (housesBy hs 0) A c
 
-  yield-free : (v : ℕ) → v < vertices s → Free v → yieldAt kept v ≡ net G A v
+  -- a yield as the house sees it
+  abbrev seen : ℕ → ℤ
+  seen = yieldIn hs c (yieldAt kept)
+
+  seen-free : (v : ℕ) → v < vertices s → T (free v) → seen v ≡ net G A v
   unfolding netYield
-  yield-free v h free = right-yield right v h ∙ ap (λ (b : Bool). cond b least (net G A v)) (false-of (A v) free)
+  seen-free v h t =
+      ap (λ (b : Bool). cond b (yieldAt kept v) least) (true-of (eqb (getD hs v 0) c) (and-l (eqb (getD hs v 0) c) _ t))
+      ∙ right-yield right v h
+      ∙ ap (λ (b : Bool). cond b least (net G A v)) (false-of (A v) (and-r (eqb (getD hs v 0) c) _ t))
 
-  -- a vertex is not anchored exactly when its yield is above the least: no climb exceeds the number of vertices
-  free-above : (v : ℕ) → v < vertices s → Free v → least <ℤ yieldAt kept v
+  -- a vertex is one of these exactly when its yield is above the least: no climb exceeds the number of vertices
+  free-above : (v : ℕ) → v < vertices s → T (free v) → least <ℤ seen v
   unfolding net
-  free-above v h free =
-      let few = climb-le G (simple (right .admitted .table)) A v h free in
+  free-above v h t =
+      let few = climb-le G (simple (right .admitted .table)) A v h (and-r (eqb (getD hs v 0) c) _ t) in
       let small = right .admitted .table .small in
-      ltZ-yes (subst (λ z. T (ltZ least z)) (sym (yield-free v h free)) (sub-cases (λ z. T (ltZ least z)) (followers G A v) (climb G A v)
+      ltZ-yes (subst (λ z. T (ltZ least z)) (sym (seen-free v h t)) (sub-cases (λ z. T (ltZ least z)) (followers G A v) (climb G A v)
       (λ q. tt)
       (λ q. lt→ltb (climb G A v - suc (followers G A v)) 32767 (omega arith))))
 
-  above-free : (v : ℕ) → least <ℤ yieldAt kept v → Free v
-  above-free v h = split (A v) (λ t. absurd (<ℤ-irrefl (rw (true-of (A v) t) at h))) (λ t. t)
+  above-free : (v : ℕ) → least <ℤ seen v → T (free v)
+  above-free v h = split (eqb (getD hs v 0) c)
+      (λ t. and-i (eqb (getD hs v 0) c) _ t (split (A v) (λ q. absurd (<ℤ-irrefl (rw (true-of (eqb (getD hs v 0) c) t, true-of (A v) q) at h))) (λ q. q)))
+      (λ t. absurd (<ℤ-irrefl (rw (false-of (eqb (getD hs v 0) c) t) at h)))
 
-  best-same : (v : ℕ) → v < vertices s → bestBy (vertices s) (yieldAt kept) v ≡ best G A v
-  best-same v h = let n = vertices s in same (bestBy n (yieldAt kept) v) (best G A v)
-      (λ t.
-      let free = above-free v (best-by-above n (yieldAt kept) v t) in
-      best-i G A v free (λ w k f. rw (yield-free w k f, yield-free v h free) at (best-by-most n (yieldAt kept) v t w k .le)))
-      (λ t.
-      let free = best-free G A v t in
-      let above = free-above v h free in
-      best-by-i n (yieldAt kept) v above (λ w k. split (A w)
-      (λ q. <ℤ-≤ℤ (rw (true-of (A w) q) above))
-      (λ q. leZ-yes (rw (yield-free w k q, yield-free v h free) (best-greatest G A v t w k q)))))
+  unseen : (v : ℕ) → T (not (free v)) → seen v ≡ least
+  unseen v t = split (eqb (getD hs v 0) c)
+      (λ q. rw (true-of (eqb (getD hs v 0) c) q, true-of (A v) (not-not (A v) (nand (eqb (getD hs v 0) c) _ t q))))
+      (λ q. rw (false-of (eqb (getD hs v 0) c) q))
 
-  pub choice-by : choiceBy (vertices s) (yieldAt kept) ≡ choice G A
-  unfolding choice
-  choice-by = first-cong (bestBy (vertices s) (yieldAt kept)) (best G A) (vertices s) best-same
+  best-same : (v : ℕ) → v < vertices s → bestBy (vertices s) seen v ≡ bestIn free (noMore G A) (vertices s) v
+  best-same v h = let n = vertices s in same (bestBy n seen v) (bestIn free (noMore G A) n v)
+      (λ t.
+      let mine = above-free v (best-by-above n seen v t) in
+      best-i free (noMore G A) n v mine (λ w k f. subst T (ap₂ leZ (seen-free w k f) (seen-free v h mine)) (best-by-most n seen v t w k .le)))
+      (λ t.
+      let mine = best-passes free (noMore G A) n v t in
+      let above = free-above v h mine in
+      best-by-i n seen v above (λ w k. split (free w)
+      (λ q. leZ-yes (subst T (ap₂ leZ (sym (seen-free w k q)) (sym (seen-free v h mine))) (best-most free (noMore G A) n v t w k q)))
+      (λ q. <ℤ-≤ℤ (subst (λ z. z <ℤ seen v) (sym (unseen w q)) above))))
+
+  pub choice-by : choiceBy (vertices s) seen ≡ choiceOf G A free
+  unfolding choiceOf choiceIn
+  choice-by = first-cong (bestBy (vertices s) seen) (bestIn free (noMore G A) (vertices s)) (vertices s) best-same
