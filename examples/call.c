@@ -98,7 +98,8 @@ static void houses(void)
 /*
  * A week of events, rider 0 being retained. 3 is retained: 1 and 2 climb a level. 0 and 2 become partners, 1 and 2 part: 1 falls again.
  * Parting them once more is refused, and so is retaining 9, who is no rider. 0 and 3 become partners too: 0 has three now, and there are
- * four pairs, where the answer has those of the start, three and two.
+ * four pairs, where the answer has those of the start, three and two. 1 and 2 are left with retained partners alone, so that a search from
+ * either reaches nobody.
  */
 static void session(void)
 {
@@ -106,13 +107,13 @@ static void session(void)
     static uint16_t lent_links[16384];
     uint16_t lent_starts[5];
     uint8_t anchored[4] = {0};
-    uint16_t levels[4] = {0}, layers[4] = {0}, components[4] = {0}, stamps[4] = {0};
+    uint16_t levels[4] = {0}, layers[4] = {0}, components[4] = {0}, reached[4] = {0}, stamps[4] = {0};
     int16_t yields[4] = {0};
     uint16_t status[6] = {0}, lifted[6] = {0}, redone[6] = {0};
     memcpy(lent_starts, starts, sizeof starts);
     memcpy(lent_links, links, sizeof links);
     tell("run", planner_run(lent_starts, 5, lent_links, 16384, retained, 4, kinds, 6, firsts, 6, seconds, 6, anchored, 4, levels, 4,
-                            layers, 4, components, 4, yields, 4, stamps, 4, status, 6, lifted, 6, redone, 6));
+                            layers, 4, components, 4, yields, 4, reached, 4, stamps, 4, status, 6, lifted, 6, redone, 6));
     numbers("starts", lent_starts, 5);
     numbers("links", lent_links, lent_starts[4]);
     bytes("anchored", anchored, 4);
@@ -120,6 +121,7 @@ static void session(void)
     numbers("layers", layers, 4);
     numbers("components", components, 4);
     signed_numbers("yields", yields, 4);
+    numbers("reached", reached, 4);
     numbers("stamps", stamps, 4);
     numbers("status", status, 6);
     numbers("lifted", lifted, 6);

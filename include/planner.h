@@ -44,9 +44,10 @@
  *   bare level           of a vertex: its level with nobody anchored
  *   climb                of a vertex not anchored: its level less its bare level, which is 0 or more
  *   net yield            of a vertex not anchored: how many followers it has, less its climb; from -1,022 to 1,023
+ *   reached count        of a vertex not anchored: how many vertices the search from it reaches (planner_followers), followers included
  *
- * An anchored vertex has level 65,535, layer 0, component 65,535 and net yield -32,768. Pairs (level, layer) are compared level first, and
- * an anchored vertex stands above all of them.
+ * An anchored vertex has level 65,535, layer 0, component 65,535, net yield -32,768 and reached count 65,535. Pairs (level, layer) are
+ * compared level first, and an anchored vertex stands above all of them.
  *
  *
  * Refusals
@@ -254,9 +255,9 @@ planner_answer planner_houses(
 
 /*
  * A session: takes events one after the other, each on what the one before left. An event anchors a vertex (retains a rider), or adds or
- * drops an edge (a pair). Every vertex's net yield is kept right by working out anew exactly those that the event may have changed. So
- * long as no edge changes, the sum of the climbs of all vertices not anchored grows by the net yields of the vertices that are anchored,
- * each as it was just before. An edge more or less moves no level and no bare level by more than one.
+ * drops an edge (a pair). Every vertex's net yield and reached count are kept right by working out anew, both together, exactly those that
+ * the event may have changed. So long as no edge changes, the sum of the climbs of all vertices not anchored grows by the net yields of the
+ * vertices that are anchored, each as it was just before. An edge more or less moves no level and no bare level by more than one.
  *
  *   starts         n + 1 numbers, the table's; filled: those of the table as the events left it
  *   links          exactly 16,384 places. As many as the last start says are the table's links, the others may hold anything. Filled: the
@@ -272,8 +273,10 @@ planner_answer planner_houses(
  *   components     filled, n numbers: the components at the end
  *   yields         filled, n numbers: the net yield of each vertex at the end, its followers less what it has already climbed above its
  *                  level with nobody anchored; -32,768 for an anchored one
- *   stamps         filled, n numbers: the position, from 1, of the last event that anchored the vertex or had its net yield worked out
- *                  anew; 0 if none did
+ *   reached        filled, n numbers: how many vertices the search from each vertex reaches at the end, which says how widely its followers
+ *                  were looked for; 65,535 for an anchored one; worked out anew and kept together with the net yield
+ *   stamps         filled, n numbers: the position, from 1, of the last event that anchored the vertex or had its net yield and reached
+ *                  count worked out anew; 0 if none did
  *   status         filled, a number for each event: 0 if it was done, else the first of these that holds. Such an event changes nothing,
  *                  and the session goes on.
  *                    10: its kind is above 2
@@ -284,8 +287,8 @@ planner_answer planner_houses(
  *                    23: it adds an edge, and there is no place for two more links
  *   lifted         filled, a number for each event: how many vertices it lifted by anchoring one; 0 if it adds or drops an edge, or its
  *                  status is not 0
- *   redone         filled, a number for each event: of how many vertices the net yield was worked out anew after it, a newly anchored one
- *                  not counted; 0 if its status is not 0
+ *   redone         filled, a number for each event: of how many vertices net yield and reached count were worked out anew after it, a newly
+ *                  anchored one not counted; 0 if its status is not 0
  *
  * Accepted: states no other value; edges and max_degree are those of the table before the events.
  * Refused: 1, 2, 12 (links), 3, 4, 5, 6, 7, 8, 9, 10, 11, 12 (the slices from anchored on); the bytes of 9 and 10 are given, the links of 4
@@ -295,8 +298,9 @@ planner_answer planner_run(
     uint16_t *starts, size_t starts_len, uint16_t *links, size_t links_len, const uint8_t *given, size_t given_len,
     const uint16_t *kinds, size_t kinds_len, const uint16_t *firsts, size_t firsts_len, const uint16_t *seconds, size_t seconds_len,
     uint8_t *anchored, size_t anchored_len, uint16_t *levels, size_t levels_len, uint16_t *layers, size_t layers_len,
-    uint16_t *components, size_t components_len, int16_t *yields, size_t yields_len, uint16_t *stamps, size_t stamps_len,
-    uint16_t *status, size_t status_len, uint16_t *lifted, size_t lifted_len, uint16_t *redone, size_t redone_len);
+    uint16_t *components, size_t components_len, int16_t *yields, size_t yields_len, uint16_t *reached, size_t reached_len,
+    uint16_t *stamps, size_t stamps_len, uint16_t *status, size_t status_len, uint16_t *lifted, size_t lifted_len,
+    uint16_t *redone, size_t redone_len);
 
 /*
  * From a text to the answer sheet. docs/FORMAT.md describes both.

@@ -19,7 +19,7 @@ use Rattle.anchored.specs.Graph.{Graph, Simple}
 use Rattle.anchored.specs.Core.{level, layer}
 use Rattle.anchored.specs.Component.{component}
 use Rattle.anchored.specs.Edge.{linkCount}
-use Rattle.anchored.specs.Followers.{followers, followerCount, reached, mark}
+use Rattle.anchored.specs.Followers.{followers, followerCount, reached, reachedCount, mark}
 use Rattle.anchored.specs.Yield.{least, nobody, bareLevel, net, netYield, climbed}
 use Rattle.anchored.specs.Step.{seesDisturbed, seesNew, moved, recomputed}
 use Rattle.anchored.specs.Session.{stale, statusOf, turn}
@@ -313,12 +313,12 @@ module _ (G : Graph) (L : Simple G) (e : Event) (S : Editable G e) (A : ℕ → 
   M = edge-simple G e L S
 
   -- a row of a free vertex that is not recomputed is none of the edge's ends
-  pub no-end : (v : ℕ) → T (not (A v)) → T (not (again v)) → T (not (ends e v))
+  no-end : (v : ℕ) → T (not (A v)) → T (not (again v)) → T (not (ends e v))
   unfolding recomputed
   no-end v a t = not-T (ends e v) (λ q. T-not (again v) t (and-i (not (A v)) _ a (or-r (seesDisturbed G E A A v || seesNew G E A A v || moved G E A A v) (ends e v) q)))
 
   -- where the rows that are not recomputed keep their number, a renewed number is the fresh one
-  renewed-edge : {X : Type 0} (top : X) (number : Graph → ℕ → X) (v : ℕ) → (T (not (A v)) → T (not (again v)) → number G v ≡ number E v)
+  pub renewed-edge : {X : Type 0} (top : X) (number : Graph → ℕ → X) (v : ℕ) → (T (not (A v)) → T (not (again v)) → number G v ≡ number E v)
       → cond (again v) (number E v) (rowNumber top A (number G) v) ≡ rowNumber top A (number E) v
   unfolding recomputed
   renewed-edge top number v same = split (A v)
@@ -327,32 +327,35 @@ module _ (G : Graph) (L : Simple G) (e : Event) (S : Editable G e) (A : ℕ → 
       (λ t. rw (true-of (again v) t, false-of (A v) a))
       (λ t. rw (false-of (again v) t, false-of (A v) a) (same a t)))
 
-  -- a row that is kept where it is not recomputed has the fresh count
-  pub edge-counts : (v : ℕ) → v < G .size → cond (again v) (followers E A v) (followerCount G A v) ≡ followerCount E A v
-  unfolding followerCount
-  edge-counts v b = renewed-edge 65535 (λ F. followers F A) v (λ a t. kept-followers G E L M (sym (edge-size G e)) A A (ends e) v b a a (edge-neighbors G e v (no-end v a t)) t)
+  -- the row of a free vertex that is not recomputed keeps its followers, its reached count and its net yield
+  module _ (v : ℕ) (b : v < G .size) (a : T (not (A v))) (t : T (not (again v))) where
+    list-kept : G .neighbors v ≡ E .neighbors v
+    list-kept = edge-neighbors G e v (no-end v a t)
 
-  -- and the fresh net yield
-  pub edge-nets : (v : ℕ) → v < G .size → cond (again v) (net E A v) (netYield G A v) ≡ netYield E A v
-  unfolding netYield
-  edge-nets v b = renewed-edge least (λ F. net F A) v (λ a t. kept-net G E L M (sym (edge-size G e)) A A (ends e) v b a a (edge-neighbors G e v (no-end v a t)) t)
+    pub edge-followers : followers G A v ≡ followers E A v
+    edge-followers = kept-followers G E L M (sym (edge-size G e)) A A (ends e) v b a a list-kept t
+
+    pub edge-reached : reached G A v ≡ reached E A v
+    edge-reached = kept-reached G E L M (sym (edge-size G e)) A A (ends e) v b a a list-kept t
+
+    pub edge-net : net G A v ≡ net E A v
+    edge-net = kept-net G E L M (sym (edge-size G e)) A A (ends e) v b a a list-kept t
 
   edge-agrees : (position : ℕ) (K : Kept) (stamps : ℕ → ℕ) → Agrees G K (fresh G (record { anchors = A; stamps = stamps }))
       → Agrees E (keepEdge position e G K) (fresh E (record { anchors = A; stamps = λ v. cond (again v) position (stamps v) }))
-  unfolding keepEdge followerCount netYield
+  unfolding keepEdge followerCount netYield reachedCount
   edge-agrees position K stamps J =
       let same : K .anchors ≡ A = J .anchors in
       let size = edge-size G e in
       let down : (v : ℕ) → v < E .size → v < G .size = λ v b. subst (λ n. v < n) size b in
-      let kept-here : (v : ℕ) → T (not (A v)) → T (not (again v)) → G .neighbors v ≡ E .neighbors v = λ v a t. edge-neighbors G e v (no-end v a t) in
       record {
         anchors = same;
         levels = λ v b. rw same;
         layers = λ v b. rw same;
         components = λ v b. rw same;
-        counts = λ v b. rw (same, J .counts v (down v b)) (edge-counts v (down v b));
-        nets = λ v b. rw (same, J .nets v (down v b)) (edge-nets v (down v b));
-        reaches = λ v b. rw (same, J .reaches v (down v b)) (renewed-edge 65535 (λ F. reached F A) v (λ a t. kept-reached G E L M (sym size) A A (ends e) v (down v b) a a (kept-here v a t) t));
+        counts = λ v b. rw (same, J .counts v (down v b)) (renewed-edge 65535 (λ F. followers F A) v (edge-followers v (down v b)));
+        nets = λ v b. rw (same, J .nets v (down v b)) (renewed-edge least (λ F. net F A) v (edge-net v (down v b)));
+        reaches = λ v b. rw (same, J .reaches v (down v b)) (renewed-edge 65535 (λ F. reached F A) v (edge-reached v (down v b)));
         stamps = λ v b. rw (same, J .stamps v (down v b));
       }
 

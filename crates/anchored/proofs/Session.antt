@@ -22,7 +22,7 @@ use Rattle.finite.proofs.Search.{any-more}
 use Rattle.anchored.specs.Graph.{Graph, Simple}
 use Rattle.anchored.specs.Core.{level, layer}
 use Rattle.anchored.specs.Component.{component}
-use Rattle.anchored.specs.Followers.{adding, follows, followers, followerCount, candidates, reached, mark}
+use Rattle.anchored.specs.Followers.{adding, follows, followers, followerCount, candidates, reached, reachedCount, mark}
 use Rattle.anchored.specs.Yield.{least, nobody, net, netYield}
 use Rattle.anchored.specs.Step.{recomputed}
 use Rattle.anchored.specs.Session.{Plain, stale, statusOf, rowOf, turn, after}
@@ -183,7 +183,7 @@ module _ (G : Graph) where
     components = component G A;
     counts = followerCount G A;
     nets = netYield G A;
-    reaches = rowNumber 65535 A (reached G A);
+    reaches = reachedCount G A;
     stamps = S .stamps;
   }
 
@@ -238,6 +238,17 @@ module _ {X : Type 0} (top : X) (G : Graph) (A : ℕ → Bool) (x : ℕ) where
       (λ r. rw (true-of (stale G A x v) r, false-of (adding A x v) t, other))
       (λ r. rw (false-of (stale G A x v) r, false-of (adding A x v) t, other, false-of (A v) (free-of A x v t)) (same t r)))
 
+-- the row of a free vertex that x does not make stale keeps its followers, its reached count and its net yield
+module _ (G : Graph) (L : Simple G) (A : ℕ → Bool) (x v : ℕ) (b : v < G .size) (t : T (not (adding A x v))) (r : T (not (stale G A x v))) where
+  pub anchor-followers : followers G A v ≡ followers G (adding A x) v
+  anchor-followers = kept-followers G G L L refl A (adding A x) nobody v b (free-of A x v t) t refl r
+
+  pub anchor-reached : reached G A v ≡ reached G (adding A x) v
+  anchor-reached = kept-reached G G L L refl A (adding A x) nobody v b (free-of A x v t) t refl r
+
+  pub anchor-net : net G A v ≡ net G (adding A x) v
+  anchor-net = kept-net G G L L refl A (adding A x) nobody v b (free-of A x v t) t refl r
+
 module _ (G : Graph) (L : Simple G) where
   lifted-fresh : (A : ℕ → Bool) (x v : ℕ) → v < G .size → cond (eqb x v) 65535 (level G A v + bit (eqb (mark G A x v) 2)) ≡ level G (adding A x) v
   lifted-fresh A x v b = split (eqb x v)
@@ -245,7 +256,7 @@ module _ (G : Graph) (L : Simple G) where
       (λ e. rw (false-of (eqb x v) e) (sym (level-lifted G L A x v b (λ q. neqb x v e (sym q)))))
 
   pub accepted-agrees : (position x : ℕ) (K : Kept) (S : Plain) → Agrees G K (fresh G S) → statusOf G (S .anchors) x ≡ 0 → Agrees G (keepAccepted G position x K) (fresh G (turn G position x S))
-  unfolding keepAccepted followerCount netYield
+  unfolding keepAccepted followerCount netYield reachedCount
   accepted-agrees position x K S H e =
       let same : K .anchors ≡ S .anchors = H .anchors in
       let A = S .anchors in
@@ -254,9 +265,9 @@ module _ (G : Graph) (L : Simple G) where
         levels = λ v b. rw (same, H .levels v b) (lifted-fresh A x v b);
         layers = λ v b. rw same;
         components = λ v b. rw same;
-        counts = λ v b. rw (same, H .counts v b) (renewed-fresh 65535 G A x (followers G) v (λ t r. kept-followers G G L L refl A (adding A x) nobody v b (free-of A x v t) t refl r));
-        nets = λ v b. rw (same, H .nets v b) (renewed-fresh least G A x (net G) v (λ t r. kept-net G G L L refl A (adding A x) nobody v b (free-of A x v t) t refl r));
-        reaches = λ v b. rw (same, H .reaches v b) (renewed-fresh 65535 G A x (reached G) v (λ t r. kept-reached G G L L refl A (adding A x) nobody v b (free-of A x v t) t refl r));
+        counts = λ v b. rw (same, H .counts v b) (renewed-fresh 65535 G A x (followers G) v (anchor-followers G L A x v b));
+        nets = λ v b. rw (same, H .nets v b) (renewed-fresh least G A x (net G) v (anchor-net G L A x v b));
+        reaches = λ v b. rw (same, H .reaches v b) (renewed-fresh 65535 G A x (reached G) v (anchor-reached G L A x v b));
         stamps = λ v b. rw (same, H .stamps v b);
       }
 

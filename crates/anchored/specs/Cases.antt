@@ -14,7 +14,7 @@ use Rattle.finite.specs.Pairs.{pairLe}
 use Rattle.anchored.specs.Graph.{Graph}
 use Rattle.anchored.specs.Core.{batch, core, level, shell, layer, greater, higher}
 use Rattle.anchored.specs.Component.{joins, around, component, together, heads, componentSize, ranked}
-use Rattle.anchored.specs.Followers.{follows, followers, followerCount, firstStep, onward, candidates, reached, mark}
+use Rattle.anchored.specs.Followers.{follows, followers, followerCount, firstStep, onward, candidates, reached, reachedCount, mark}
 use Rattle.anchored.specs.Yield.{bareLevel, climb, net, netYield, climbed, choiceOf, choice}
 use Rattle.anchored.specs.Collapse.{falls, fallMark, exposed}
 use Rattle.anchored.specs.Sheet.{isDefined, misplaced, tooHigh, tooLow, tooLate, fits, isLocal}
@@ -93,6 +93,8 @@ pub cases :
     × (rows chain (among (0 ∷ [])) ≡ (65535 ∷ 1 ∷ 1 ∷ 1 ∷ []) ∷ (0 ∷ 3 ∷ 2 ∷ 1 ∷ []) ∷ (65535 ∷ 1 ∷ 1 ∷ 1 ∷ []) ∷ (65535 ∷ 0 ∷ 1 ∷ 2 ∷ []) ∷ [])
     × (search-from chain (among (0 ∷ [])) 1 ≡ (0 ∷ 0 ∷ 0 ∷ 0 ∷ []) ∷ (0 ∷ 0 ∷ []) ∷ [])
     × (search-from chain (among (0 ∷ [])) 3 ≡ (0 ∷ 2 ∷ 2 ∷ 0 ∷ []) ∷ (2 ∷ 2 ∷ []) ∷ [])
+    -- the reached counts of C, where nobody follows anybody, and of D
+    × (tabulate (reachedCount chain (among [])) 4 ∷ tabulate (reachedCount chain (among (0 ∷ []))) 4 ∷ [] ≡ (1 ∷ 0 ∷ 0 ∷ 1 ∷ []) ∷ (65535 ∷ 0 ∷ 1 ∷ 2 ∷ []) ∷ [])
     -- E: neighbors anchored earlier count
     × (rows chain (among (0 ∷ 3 ∷ [])) ≡ (65535 ∷ 2 ∷ 2 ∷ 65535 ∷ []) ∷ (0 ∷ 1 ∷ 1 ∷ 0 ∷ []) ∷ (65535 ∷ 1 ∷ 1 ∷ 65535 ∷ []) ∷ (65535 ∷ 0 ∷ 0 ∷ 65535 ∷ []) ∷ [])
     -- each gives up its climb
@@ -151,5 +153,5 @@ pub cases :
     × (collapse-of kite (among []) 1 ≡ (1 ∷ 0 ∷ 1 ∷ 0 ∷ []) ∷ (1 ∷ 1 ∷ 1 ∷ 0 ∷ []) ∷ [])
     × (collapse-of chain (among (0 ∷ 3 ∷ [])) 0 ≡ (0 ∷ 1 ∷ 1 ∷ 0 ∷ []) ∷ (0 ∷ 1 ∷ 1 ∷ 0 ∷ []) ∷ [])
     × (collapse-of star (among (1 ∷ [])) 1 ≡ (0 ∷ 0 ∷ 0 ∷ 0 ∷ []) ∷ (1 ∷ 0 ∷ 1 ∷ 1 ∷ []) ∷ [])
-unfolding tabulate below count sum any all firstFrom first largest bestIn choiceIn select falling keep having rounds grow pairLe batch core level shell layer greater higher joins around component together heads componentSize ranked follows followers followerCount firstStep onward candidates reached mark bareLevel climb net netYield climbed choiceOf choice falls fallMark exposed isDefined misplaced tooHigh tooLow tooLate fits isLocal above sameInside undisturbed seesDisturbed seesNew moved recomputed statusOf rowOf turn after gained
-cases = (refl, refl, refl, refl, refl, refl, refl, refl, refl, refl, refl, refl, refl, refl, refl, refl, refl, refl, refl, refl, refl, refl, refl, refl, refl, refl, refl, refl, refl, refl, refl, refl, refl, refl, refl, refl, refl, refl, refl, refl, refl, refl, refl, refl, refl, refl, refl)
+unfolding tabulate below count sum any all firstFrom first largest bestIn choiceIn select falling keep having rounds grow pairLe batch core level shell layer greater higher joins around component together heads componentSize ranked follows followers followerCount firstStep onward candidates reached reachedCount mark bareLevel climb net netYield climbed choiceOf choice falls fallMark exposed isDefined misplaced tooHigh tooLow tooLate fits isLocal above sameInside undisturbed seesDisturbed seesNew moved recomputed statusOf rowOf turn after gained
+cases = (refl, refl, refl, refl, refl, refl, refl, refl, refl, refl, refl, refl, refl, refl, refl, refl, refl, refl, refl, refl, refl, refl, refl, refl, refl, refl, refl, refl, refl, refl, refl, refl, refl, refl, refl, refl, refl, refl, refl, refl, refl, refl, refl, refl, refl, refl, refl, refl)

@@ -48,6 +48,10 @@ module _ (G : Graph) (A : ℕ → Bool) where
   unfoldable pub reached : ℕ → ℕ
   reached x = count (has (candidates x)) (below (G .size))
 
+  -- the reached count of a row (document 02, card 10): 65,535 for an anchored vertex
+  unfoldable pub reachedCount : ℕ → ℕ
+  reachedCount x = cond (A x) 65535 (reached x)
+
   -- the mark of v in the search from x
   unfoldable pub mark : ℕ → ℕ → ℕ
   mark x v = cond (follows x v) 2 (cond (has (candidates x) v) 1 0)

@@ -16,7 +16,8 @@ use Rattle.anchored.specs.Edge.{either, Parted}
 use Rattle.anchored.specs.Followers.{followers, followerCount}
 use Rattle.anchored.specs.Step.{recomputed}
 use Rattle.anchored.specs.Events.{Event, eventOf, edgeEvent, Pool, anchors, ends, Editable, edgeStatus, eventStatus, edgeGraph, edgeStale, eventRow, eventTurn}
-use Rattle.anchored.proofs.Events.{edge-editable, edge-size, edge-neighbors, edge-counts, turn-edge, turn-none, row-edge, row-none}
+use Rattle.anchored.proofs.Session.{rowNumber}
+use Rattle.anchored.proofs.Events.{edge-editable, edge-size, edge-neighbors, renewed-edge, edge-followers, edge-reached, turn-edge, turn-none, row-edge, row-none}
 use Rattle.anchored.proofs.Order.{one-anchor, one-row}
 use Rattle.anchored.proofs.Parted.{edge-parted}
 use Rattle.pool.specs.Input.{graphOf, anchoredBy, Admitted}
@@ -24,9 +25,9 @@ use Rattle.pool.specs.Arrays.{Holds}
 use Rattle.pool.proofs.Laws.{simple}
 use Rattle.edit.specs.Edit.{Tabled}
 use Rattle.stale.specs.Columns.{ColumnsOf}
-use Rattle.records.specs.Record.{Right, plainOf, Stands}
+use Rattle.records.specs.Record.{reachedIf, rowReached, Right, plainOf, Stands}
 use Rattle.records.specs.declared.Record.{Record}
-use Rattle.step.specs.Rows.{Redone}
+use Rattle.step.specs.Rows.{rowsOf, Renewed, Redone}
 use Rattle.step.specs.Turn.{rowAs}
 use Rattle.step.specs.Turn.{Turned as Stepping}
 use Rattle.step.specs.declared.Stepped.{Stepped}
@@ -78,10 +79,11 @@ module _ {s₀ l₀ s l : List ℕ} {kept : Record} (right : Right s₀ l₀ kep
   }
 
   -- what working on the record asks of it
-  pub renewable : Admitted s l (kept .anchored) × (((e .first < vertices s) × (e .second < vertices s)) × ((vertices s ≤ length (kept .followers)) × (vertices s ≤ length (kept .stamp))))
+  pub renewable : Admitted s l (kept .anchored)
+      × (((e .first < vertices s) × (e .second < vertices s)) × ((vertices s ≤ length (kept .followers)) × ((vertices s ≤ length (kept .reached)) × (vertices s ≤ length (kept .stamp)))))
   renewable = (
     still-admitted,
-    ((omega (arith, ok .first, size), omega (arith, ok .second, size)), (omega (arith, right .counts-long, size), omega (arith, right .stamps-long, size))),
+    ((omega (arith, ok .first, size), omega (arith, ok .second, size)), (omega (arith, right .counts-long, size), (omega (arith, right .reaches-long, size), omega (arith, right .stamps-long, size)))),
   )
 
   -- the record was worked out for the graph before
@@ -100,17 +102,27 @@ module _ {s₀ l₀ s l : List ℕ} {kept : Record} (right : Right s₀ l₀ kep
     next = left .kept
 
     -- its rows, in the words of the edited graph
-    rows : Redone s l (kept .anchored) (edgeStale P e) position (kept .followers) (kept .stamp) (next .followers) (next .stamp) (left .row .redone) (vertices s)
-    rows = subst (λ H. Redone s l (kept .anchored) (recomputed G H A A (ends e)) position (kept .followers) (kept .stamp) (next .followers) (next .stamp) (left .row .redone) (vertices s)) (table .graph) (W .rows G worked-before)
+    rows : Redone s l (kept .anchored) (kept .reaching) (edgeStale P e) position (rowsOf kept) (rowsOf next) (left .row .redone) (vertices s)
+    rows = subst (λ H. Redone s l (kept .anchored) (kept .reaching) (recomputed G H A A (ends e)) position (rowsOf kept) (rowsOf next) (left .row .redone) (vertices s)) (table .graph) (W .rows G worked-before)
 
-    counts-after : Holds (next .followers) (vertices s) (followerCount (graphOf s l) A)
-    counts-after v h =
+    -- a column of counts in which these rows are worked afresh is right, where the other rows keep their count
+    column-after : (number : Graph → ℕ → ℕ) (old new : List ℕ) → Renewed (edgeStale P e) (number (graphOf s l)) old new (vertices s) → Holds old (vertices s₀) (rowNumber 65535 A (number G))
+        → ((v : ℕ) → v < vertices s₀ → T (not (A v)) → T (not (edgeStale P e v)) → number G v ≡ number (edgeGraph G e) v) → Holds new (vertices s) (rowNumber 65535 A (number (graphOf s l)))
+    column-after number old new renews held same v h =
         let b : v < vertices s₀ = omega (arith, size) in
         let again = edgeStale P e v in
-        rows .counts v
-        ∙ ap (λ q. cond (q && again) (followers (graphOf s l) A v) (getD (kept .followers) v 0)) (lt-ltb v (vertices s) h)
-        ∙ ap (cond again (followers (graphOf s l) A v)) (right .counts v b)
-        ∙ subst (λ H. cond again (followers H A v) (followerCount G A v) ≡ followerCount H A v) (sym (table .graph)) (edge-counts G L e ok A v b)
+        renews .places v
+        ∙ ap (λ q. cond (q && again) (number (graphOf s l) v) (getD old v 0)) (lt-ltb v (vertices s) h)
+        ∙ ap (cond again (number (graphOf s l) v)) (held v b)
+        ∙ subst (λ H. cond again (number H v) (rowNumber 65535 A (number G) v) ≡ rowNumber 65535 A (number H) v) (sym (table .graph)) (renewed-edge G L e ok A 65535 number v (same v b))
+
+    counts-after : Holds (next .followers) (vertices s) (followerCount (graphOf s l) A)
+    unfolding followerCount
+    counts-after = column-after (λ F. followers F A) (kept .followers) (next .followers) (rows .counts) (right .counts) (edge-followers G L e ok A)
+
+    reaches-after : Holds (next .reached) (vertices s) (rowReached (kept .reaching) (graphOf s l) A)
+    reaches-after = column-after (λ F. reachedIf (kept .reaching) F A) (kept .reached) (next .reached) (rows .reaches) (right .reaches)
+        (λ v b a t. ap (λ k. cond (kept .reaching) k 0) (edge-reached G L e ok A v b a t))
 
     -- the record is right for the table as it then stands
     right-after : Right s l next
@@ -119,15 +131,18 @@ module _ {s₀ l₀ s l : List ℕ} {kept : Record} (right : Right s₀ l₀ kep
       columns = subst (λ a. ColumnsOf (graphOf s l) (anchoredBy a) (next .columns)) (sym (W .bytes)) (W .columns);
       bares = W .bares;
       counts = subst (λ a. Holds (next .followers) (vertices s) (followerCount (graphOf s l) (anchoredBy a))) (sym (W .bytes)) counts-after;
-      counts-long = omega (arith, rows .counts-long, right .counts-long, size);
-      stamps-long = omega (arith, rows .stamps-long, right .stamps-long, size);
+      counts-long = omega (arith, rows .counts .long, right .counts-long, size);
+      reaches = subst (λ b. Holds (next .reached) (vertices s) (rowReached b (graphOf s l) (anchoredBy (next .anchored)))) (sym (W .reaching))
+          (subst (λ a. Holds (next .reached) (vertices s) (rowReached (kept .reaching) (graphOf s l) (anchoredBy a))) (sym (W .bytes)) reaches-after);
+      reaches-long = omega (arith, rows .reaches .long, right .reaches-long, size);
+      stamps-long = omega (arith, rows .stamps .long, right .stamps-long, size);
     }
 
     -- its bytes and stamps are those of the plain session's turn
     stands-after : Stands (vertices s₀) next (eventTurn position e P .plain)
     stands-after = subst (λ R. Stands (vertices s₀) next (R .plain)) (sym (turn-edge P e position z t)) record {
       anchors = ap anchoredBy (W .bytes);
-      stamps = λ v h. rows .stamps v ∙ ap (λ q. cond (q && edgeStale P e v) position (getD (kept .stamp) v 0)) (lt-ltb v (vertices s) (omega (arith, size)));
+      stamps = λ v h. rows .stamps .places v ∙ ap (λ q. cond (q && edgeStale P e v) position (getD (kept .stamp) v 0)) (lt-ltb v (vertices s) (omega (arith, size)));
     }
 
     row-after : rowAs (left .row) ≡ eventRow P e
@@ -139,6 +154,7 @@ module _ {s₀ l₀ s l : List ℕ} {kept : Record} (right : Right s₀ l₀ kep
     edge-turned = record {
       table = subst (λ R. Tabled s l (R .graph)) (sym (turn-edge P e position z t)) table;
       right = right-after;
+      reaching = W .reaching;
       stands = stands-after;
       row = row-after;
     }
@@ -163,6 +179,7 @@ module _ {s l : List ℕ} {kept : Record} (table : Tabled s l (graphOf s l)) (ri
       let turn = one-anchor (graphOf s l) (anchoredBy (kept .anchored)) position (e .first) (plainOf kept) e k refl in record {
         table = subst (λ Q. Tabled s l (Q .graph)) (sym turn) table;
         right = W .right;
+        reaching = W .reaching;
         stands = subst (λ Q. Stands (vertices s) (left .kept) (Q .plain)) (sym turn) (W .stands);
         row = W .row ∙ sym (one-row (graphOf s l) (anchoredBy (kept .anchored)) (e .first) (plainOf kept) e k refl);
       }
@@ -175,6 +192,7 @@ module _ {s l : List ℕ} {kept : Record} (table : Tabled s l (graphOf s l)) (ri
       let same = turn-none R e position off in record {
         table = subst (λ Q. Tabled s l (Q .graph)) (sym same) table;
         right = right;
+        reaching = refl;
         stands = subst (λ Q. Stands (vertices s) kept (Q .plain)) (sym same) record { anchors = refl; stamps = λ v h. refl };
         row = rw (sym z) (sym (row-none R e off));
       }

@@ -14,7 +14,7 @@ use Rattle.pool.specs.Arrays.{Holds}
 use Rattle.stale.specs.Columns.{ColumnsOf}
 use Rattle.stale.specs.declared.Columns.{Columns}
 use Rattle.records.specs.declared.Record.{Record}
-use Rattle.step.specs.Rows.{staleBy, Redone}
+use Rattle.step.specs.Rows.{staleBy, rowsOf, Redone}
 use Rattle.step.specs.declared.Stepped.{Stepped}
 
 -- the record was worked out for G, in which the edge (a, b) alone is other than in the table
@@ -35,9 +35,10 @@ Finds s l a b kept columns bare marks = let A = anchoredBy (kept .anchored) in C
 -- makes stale, counted afresh and stamped
 pub record Renews (s l : List ℕ) (a b position : ℕ) (kept : Record) (left : Stepped) : Type 0 where
   pub bytes : left .kept .anchored ≡ kept .anchored
+  pub reaching : left .kept .reaching ≡ kept .reaching
   pub columns : ColumnsOf (graphOf s l) (anchoredBy (kept .anchored)) (left .kept .columns)
   pub bares : Holds (left .kept .bare) (vertices s) (bareLevel (graphOf s l))
   pub status : left .row .status ≡ 0
   pub lifted : left .row .lifted ≡ 0
   pub rows : (G : Graph) → Before s l a b kept G → let A = anchoredBy (kept .anchored) in
-      Redone s l (kept .anchored) (recomputed G (graphOf s l) A A (either a b)) position (kept .followers) (kept .stamp) (left .kept .followers) (left .kept .stamp) (left .row .redone) (vertices s)
+      Redone s l (kept .anchored) (kept .reaching) (recomputed G (graphOf s l) A A (either a b)) position (rowsOf kept) (rowsOf (left .kept)) (left .row .redone) (vertices s)

@@ -19,9 +19,11 @@ poolOf s l kept = record { graph = graphOf s l; plain = plainOf kept }
 abbrev pub refusing : Record → ℕ → Stepped
 refusing kept status = record { kept = kept; row = record { status = status; lifted = 0; redone = 0 } }
 
--- what an event at a position makes of the table s and l and of a right record: exactly one turn of the plain session
+-- what an event at a position makes of the table s and l and of a right record: exactly one turn of the plain session; reached counts are
+-- kept as before
 pub record Turned (s l : List ℕ) (position : ℕ) (e : Event) (kept : Record) (s′ l′ : List ℕ) (left : Stepped) : Type 0 where
   pub table : Tabled s′ l′ (eventTurn position e (poolOf s l kept) .graph)
   pub right : Right s′ l′ (left .kept)
+  pub reaching : left .kept .reaching ≡ kept .reaching
   pub stands : Stands (vertices s) (left .kept) (eventTurn position e (poolOf s l kept) .plain)
   pub row : rowAs (left .row) ≡ eventRow (poolOf s l kept) e

@@ -43,6 +43,7 @@ fn renew(starts: &[u16], links: &[u16], kept: Record, a: usize, b: usize, positi
     requires { ⌜ Admitted (now starts) (now links) (kept .anchored) ⌝ }
     requires { ⌜ (a < vertices (now starts)) × (b < vertices (now starts)) ⌝ }
     requires { ⌜ vertices (now starts) ≤ length (kept .followers) ⌝ }
+    requires { ⌜ vertices (now starts) ≤ length (kept .reached) ⌝ }
     requires { ⌜ vertices (now starts) ≤ length (kept .stamp) ⌝ }
     ensures { λ r. ⌜ Renews (old starts) (old links) a b position kept r ⌝ }
 {
@@ -52,7 +53,9 @@ fn renew(starts: &[u16], links: &[u16], kept: Record, a: usize, b: usize, positi
     records::afresh::fill_bare(starts, links, &mut bare);
     let mut marks = [0u8; 1024];
     mark_rows(starts, links, kept, columns, &bare, a, b, &mut marks);
+    let reaching = kept.reaching;
     let mut followers = kept.followers;
+    let mut reached = kept.reached;
     let mut stamp = kept.stamp;
     let redone = step::redo(
         starts,
@@ -61,23 +64,21 @@ fn renew(starts: &[u16], links: &[u16], kept: Record, a: usize, b: usize, positi
         columns,
         &marks,
         position,
+        reaching,
         &mut followers,
+        &mut reached,
         &mut stamp,
     );
-    Stepped {
-        kept: Record {
-            anchored,
-            columns,
-            bare,
-            followers,
-            stamp,
-        },
-        row: Row {
-            status: 0,
-            lifted: 0,
-            redone: redone as u16,
-        },
-    }
+    let next = Record {
+        anchored,
+        columns,
+        bare,
+        followers,
+        reaching,
+        reached,
+        stamp,
+    };
+    step::accepted(next, 0, redone as u16)
 }
 
 // The edge between a and b is added, or dropped.

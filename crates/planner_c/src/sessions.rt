@@ -21,6 +21,7 @@ pub extern "C" fn planner_run(
     layers: &mut [u16],
     components: &mut [u16],
     yields: &mut [i16],
+    reached: &mut [u16],
     stamps: &mut [u16],
     status: &mut [u16],
     lifted: &mut [u16],
@@ -28,8 +29,10 @@ pub extern "C" fn planner_run(
 ) -> Answer
     ensures { λ r.
         let events = lists (old kinds) (old firsts) (old seconds) in
-        let lent = slices (old starts) (old links) (old anchored) (old levels) (old layers) (old components) (old yields) (old stamps) (old status) (old lifted) (old redone) in
-        let after = slices (final starts) (final links) (final anchored) (final levels) (final layers) (final components) (final yields) (final stamps) (final status) (final lifted) (final redone) in
+        let lent = slices (old starts) (old links) (old anchored) (old levels) (old layers) (old components)
+        (old yields) (old reached) (old stamps) (old status) (old lifted) (old redone) in
+        let after = slices (final starts) (final links) (final anchored) (final levels) (final layers) (final components)
+        (final yields) (final reached) (final stamps) (final status) (final lifted) (final redone) in
         let guard = runOf (old given) events lent in
         ⌜ (r ≡ answer guard (acceptedAs 0 0 (sizeOf (old starts) (old links))) refusedAs) × (after ≡ held guard (ended (old starts) (old links) (old given) events) lent) ⌝ }
     ensures claim { λ r. ⌜ (r .number ≡ 0 → Claim (old starts) (old links) (old given) (lists (old kinds) (old firsts) (old seconds))) ⌝ }
@@ -46,6 +49,7 @@ pub extern "C" fn planner_run(
         layers,
         components,
         yields,
+        reached,
         stamps,
         status,
         lifted,

@@ -7,11 +7,12 @@ use native.Mathlib.Omega.{arith}
 use lib.ListN.{length, getD, replicate, length-replicate}
 use lib.Dec.{eqb}
 use Rattle.finite.specs.Count.{below}
+use Rattle.finite.specs.Sets.{has}
 use Rattle.finite.proofs.Count.{length-below, count-length, zeros-at}
 use Rattle.table.specs.Table.{vertices, SoundTable}
 use Rattle.anchored.specs.Graph.{Graph}
 use Rattle.anchored.specs.Core.{level}
-use Rattle.anchored.specs.Followers.{follows, followers}
+use Rattle.anchored.specs.Followers.{follows, followers, candidates, reached}
 use Rattle.anchored.specs.Yield.{nobody, bareLevel}
 use Rattle.anchored.specs.Session.{after}
 use Rattle.pool.specs.Input.{graphOf, anchoredBy, Admitted}
@@ -42,10 +43,14 @@ pub bare-held : (s l bare : List ℕ) → Holds bare (vertices s) (level (graphO
 unfolding bareLevel
 bare-held s l bare holds v h = holds v h ∙ ap (λ A. level (graphOf s l) A v) nobody-bytes
 
--- a vertex has at most n followers
+-- a vertex has at most n followers, and reaches at most n
 pub followers-le : (G : Graph) (A : ℕ → Bool) (x : ℕ) → followers G A x ≤ G .size
 unfolding followers
 followers-le G A x = omega (arith, count-length (follows G A x) (below (G .size)), length-below (G .size))
+
+pub reached-le : (G : Graph) (A : ℕ → Bool) (x : ℕ) → reached G A x ≤ G .size
+unfolding reached
+reached-le G A x = omega (arith, count-length (has (candidates G A x)) (below (G .size)), length-below (G .size))
 
 -- at the start: bytes that read as the given ones, and stamps 0
 pub stands-start : (s l given requests : List ℕ) (kept : Record) → ((v : ℕ) → getD (kept .anchored) v 0 ≡ getD given v 0) → Holds (kept .stamp) (vertices s) (λ v. 0)

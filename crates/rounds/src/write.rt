@@ -33,7 +33,8 @@ pub fn write_shared(
         ⌜ Written (old out) 0 (sheetOf (vertices (old starts)) rounds) (final out) r ⌝ }
 {
     let houses = quotas.len();
-    let mut kept = records::begin::begin(starts, links, given);
+    // no line shows a reached count
+    let mut kept = records::begin::begin(starts, links, given, false);
     let mut turns = turns::next::begin_turns(quotas);
     let mut at: usize = 0;
     let mut i: u16 = 0;

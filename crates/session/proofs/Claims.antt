@@ -16,7 +16,7 @@ use Rattle.table.specs.declared.Guard.the-variants.{Passed}
 use Rattle.anchored.specs.Graph.{Graph, Simple}
 use Rattle.anchored.specs.Core.{level, layer}
 use Rattle.anchored.specs.Component.{component}
-use Rattle.anchored.specs.Followers.{followers, reached}
+use Rattle.anchored.specs.Followers.{followers, reachedCount}
 use Rattle.anchored.specs.Yield.{bareLevel, net, netYield, climbed}
 use Rattle.anchored.specs.Session.{Row}
 use Rattle.anchored.specs.Events.{Event, Pool, anchors, eventStatus, eventRow, eventTurn, afterEvents, gainedFrom}
@@ -30,7 +30,7 @@ use Rattle.session.specs.Claim.{upto, graph, set, sizeAt, redone, shown,
 use Rattle.session.specs.Runs.{Runs}
 use Rattle.session.proofs.Runs.{prefix-size, prefix-all, runs-prefix, run-passes, run-sound}
 use Rattle.session.proofs.Tables.{Standing, start-starts, start-links, pools-stand}
-use Rattle.session.proofs.Records.{pool-simple, set-is, bytes-admitted, search-at, yield-anchored, yield-free, yield-made, climbs-are}
+use Rattle.session.proofs.Records.{pool-simple, set-is, bytes-admitted, search-reached, yield-anchored, yield-free, reached-anchored, yield-made, climbs-are}
 use Rattle.session.proofs.Rows.{status-same}
 use Rattle.session.proofs.Events.{Accepted}
 use Rattle.session.proofs.Events as event
@@ -97,8 +97,8 @@ module _ (s l given : List ℕ) (events : Lists) (runs : Runs s l given events) 
       levels = sym (in-slices (λ g B. tabulate (level g B) n));
       layers = sym (in-slices (λ g B. tabulate (layer g B) n));
       components = sym (in-slices (λ g B. tabulate (component g B) n));
-      anchored = λ v b t. yield-anchored stands v b (in-set v t);
-      search = λ v b t. search-at stands v b (in-none v t) ∙ sym (in-slices (λ g B. Found (followers g B v) (reached g B v) (sizeAt s l given events i)));
+      anchored = λ v b t. (yield-anchored stands v b (in-set v t), reached-anchored stands v b (in-set v t));
+      search = λ v b t. search-reached stands v b (in-none v t) ∙ sym (in-slices (λ g B. Found (followers g B v) (getD (record-at i .reached) v 0) (sizeAt s l given events i)));
       yields = λ v b t. yield-free stands v b (in-none v t) ∙ yield-made stands v b
           ∙ sym (in-slices (λ g B. pos (followers g B v) -ℤ pos (getD (record-at i .levels) v 0 - bareLevel g v)));
     }
@@ -165,14 +165,15 @@ module _ (s l given : List ℕ) (events : Lists) (runs : Runs s l given events) 
             starts = ap (λ R. startsOf (R .graph)) next;
             links = ap (λ R. linksOf (R .graph)) next;
             anchored = event.anchored-set step kind;
-            search = search-at (stands i) x (event.anchor-vertex step kind) (event.anchor-free step kind)
-                ∙ ap₂ (λ lifted reached. Found lifted reached (sizeAt s l given events i)) (sym (ap (λ r. r .lifted) row-at ∙ event.anchor-lifted step kind)) (sym (in-slices i (λ g B. reached g B x)));
+            search = search-reached (stands i) x (event.anchor-vertex step kind) (event.anchor-free step kind)
+                ∙ ap (λ lifted. Found lifted (getD (record-at i .reached) x 0) (sizeAt s l given events i)) (sym (ap (λ r. r .lifted) row-at ∙ event.anchor-lifted step kind));
             lifted = ap (λ r. r .lifted) row-at ∙ event.anchor-marked step kind;
             levels = event.anchor-levels step kind;
             stamped = λ v b t. stamps v b ∙ rw (true-of (eqb x v || again v) t);
             counted = ap (λ r. r .redone) row-at ∙ event.anchor-counted step kind;
             uncounted = event.anchor-uncounted step kind;
             kept-yields = event.anchor-yields step kind;
+            kept-reached = event.anchor-reaches step kind;
             kept-stamps = λ v b t. stamps v b ∙ rw (false-of (eqb x v || again v) t);
           }
 
@@ -189,6 +190,7 @@ module _ (s l given : List ℕ) (events : Lists) (runs : Runs s l given events) 
             stamped = λ v b t. stamps v b ∙ rw (true-of (again v) t);
             counted = ap (λ r. r .redone) row-at ∙ event.edge-counted step kind;
             kept-yields = event.edge-yields step kind;
+            kept-reached = event.edge-reaches step kind;
             kept-stamps = λ v b t. stamps v b ∙ rw (false-of (again v) t);
           }
 
@@ -207,6 +209,7 @@ module _ (s l given : List ℕ) (events : Lists) (runs : Runs s l given events) 
           layers = ap (λ R. tabulate (layer (R .graph) (R .plain .anchors)) n) same;
           components = ap (λ R. tabulate (component (R .graph) (R .plain .anchors)) n) same;
           yields = ap (λ R. tabulate (netYield (R .graph) (R .plain .anchors)) n) same;
+          reached = ap (λ R. tabulate (reachedCount (R .graph) (R .plain .anchors)) n) same;
           stamps = ap (λ R. tabulate (R .plain .stamps) n) same;
         }
 

@@ -12,19 +12,19 @@ use Rattle.finite.proofs.Tests.{or-r, not-or, true-of, false-of}
 use Rattle.finite.proofs.Count.{tabulate-reads, tabulate-at, count-cong, in-below}
 use Rattle.anchored.specs.Graph.{Graph}
 use Rattle.anchored.specs.Core.{level}
-use Rattle.anchored.specs.Followers.{adding, followers, mark}
-use Rattle.anchored.specs.Yield.{nobody, bareLevel, netYield}
+use Rattle.anchored.specs.Followers.{adding, followers, reached, reachedCount, mark}
+use Rattle.anchored.specs.Yield.{least, nobody, bareLevel, net, netYield}
 use Rattle.anchored.specs.Step.{recomputed}
 use Rattle.anchored.specs.Session.{Plain, stale, statusOf}
 use Rattle.anchored.specs.Events.{Event, Pool, anchors, ends, Editable, eventStatus, edgeGraph, edgeStale, eventRow, eventTurn}
-use Rattle.anchored.proofs.Session.{status-free, turn-accepted, followers-marks, level-lifted}
-use Rattle.anchored.proofs.Events.{edge-size, edge-neighbors, edge-simple, edge-by-one, accepted-anchor, accepted-edge, turn-anchor, turn-edge, no-end, row-anchor, row-edge}
+use Rattle.anchored.proofs.Session.{status-free, turn-accepted, followers-marks, level-lifted, anchor-reached, anchor-net}
+use Rattle.anchored.proofs.Events.{edge-by-one, edge-reached, edge-net, accepted-anchor, accepted-edge, turn-anchor, turn-edge, row-anchor, row-edge}
 use Rattle.pool.specs.Input.{graphOf, anchoredBy}
 use Rattle.search.specs.Answers.{marksOf}
 use Rattle.edit.specs.Edit.{lastStart, startsOf, linksOf}
 use Rattle.session.proofs.Tables.{Standing}
 use Rattle.session.proofs.Records.{pool-simple, pool-size, set-is}
-use Rattle.session.proofs.Rows.{recomputed-same, kept-yield}
+use Rattle.session.proofs.Rows.{recomputed-same, row-kept}
 
 -- event e is accepted in pool P, at a position, and leaves pool Q; both stand in their slices
 pub record Accepted (n : ℕ) (P Q : Pool) (e : Event) (position : ℕ) : Type 0 where
@@ -58,8 +58,19 @@ module _ {n : ℕ} {P Q : Pool} {e : Event} {position : ℕ} (step : Accepted n 
   abbrev yield-in : Pool → ℕ → ℤ
   yield-in R v = getD (tabulate (netYield (R .graph) (R .plain .anchors)) n) v (pos 0)
 
+  abbrev reached-in : Pool → ℕ → ℕ
+  reached-in R v = getD (tabulate (reachedCount (R .graph) (R .plain .anchors)) n) v 0
+
   abbrev stamp-in : Pool → ℕ → ℕ
   stamp-in R v = getD (tabulate (R .plain .stamps) n) v 0
+
+  -- a number of a row that is the same in both pools is read the same
+  reads-same : {X : Type 0} (default : X) (number : Graph → (ℕ → Bool) → ℕ → X) (v : ℕ) → v < n → number (Q .graph) (Q .plain .anchors) v ≡ number G A v
+      → getD (tabulate (number (Q .graph) (Q .plain .anchors)) n) v default ≡ getD (tabulate (number G A) n) v default
+  reads-same default number v b same = tabulate-reads (number (Q .graph) (Q .plain .anchors)) default n v b ∙ same ∙ sym (tabulate-reads (number G A) default n v b)
+
+  vertex : (v : ℕ) → v < n → v < G .size
+  vertex v b = let size = pool-size (step .old) in omega arith
 
   -- it anchors a vertex
   module _ (kind : T (anchors e)) where
@@ -131,17 +142,26 @@ module _ {n : ℕ} {P Q : Pool} {e : Event} {position : ℕ} (step : Accepted n 
         ∙ level-lifted G (pool-simple (step .old)) A x v (omega arith) other
         ∙ ap₂ (λ k j. k + bit (eqb j 2)) (sym (tabulate-at (level G A) n v b)) (sym (mark-is v b))
 
-    -- every row but x's and those recomputed keeps its yield
-    pub anchor-yields : (v : ℕ) → v < n → T (not (eqb x v || redone v)) → yield-in Q v ≡ yield-in P v
-    anchor-yields v b t =
-        let both = not-or (eqb x v) (redone v) t in
-        let size = pool-size (step .old) in
-        let L = pool-simple (step .old) in
-        let same : A v ≡ B v = sym (rw (false-of (eqb x v) (both .0)) (or-false (A v))) in
-        tabulate-reads (netYield (Q .graph) (Q .plain .anchors)) (pos 0) n v b
-        ∙ ap (λ R. netYield (R .graph) (R .plain .anchors) v) anchored-next
-        ∙ kept-yield G G L L refl A B nobody v (omega arith) same (λ a. refl) (subst (λ f. T (not (f v))) anchor-redone (both .1))
-        ∙ sym (tabulate-reads (netYield G A) (pos 0) n v b)
+    -- every row but x's and those recomputed keeps its yield and its reached count
+    module _ (v : ℕ) (b : v < n) (t : T (not (eqb x v || redone v))) where
+      alike : A v ≡ B v
+      alike = sym (rw (false-of (eqb x v) (not-or (eqb x v) (redone v) t .0)) (or-false (A v)))
+
+      still-free : T (not (A v)) → T (not (B v))
+      still-free = subst (λ c. T (not c)) alike
+
+      unstale : T (not (stale G A x v))
+      unstale = subst (λ f. T (not (f v))) anchor-redone (not-or (eqb x v) (redone v) t .1)
+
+      pub anchor-yields : yield-in Q v ≡ yield-in P v
+      unfolding netYield
+      anchor-yields = reads-same (pos 0) netYield v b (ap (λ R. netYield (R .graph) (R .plain .anchors) v) anchored-next
+          ∙ row-kept least A B (net G A) (net G B) v alike (λ a. anchor-net G (pool-simple (step .old)) A x v (vertex v b) (still-free a) unstale))
+
+      pub anchor-reaches : reached-in Q v ≡ reached-in P v
+      unfolding reachedCount
+      anchor-reaches = reads-same 0 reachedCount v b (ap (λ R. reachedCount (R .graph) (R .plain .anchors) v) anchored-next
+          ∙ row-kept 65535 A B (reached G A) (reached G B) v alike (λ a. anchor-reached G (pool-simple (step .old)) A x v (vertex v b) (still-free a) unstale))
 
   -- it adds an edge, or drops it
   module _ (kind : T (not (anchors e))) where
@@ -197,13 +217,17 @@ module _ {n : ℕ} {P Q : Pool} {e : Event} {position : ℕ} (step : Accepted n 
         let later : bareLevel (graph-in Q) v ≡ level H nobody v = ap (λ g. level g nobody v) (step .new .tabled .graph ∙ ap (λ R. R .graph) edged-next) in
         omega arith
 
-    -- every row that is not recomputed keeps its yield
-    pub edge-yields : (v : ℕ) → v < n → T (not (redone v)) → yield-in Q v ≡ yield-in P v
-    edge-yields v b t =
-        let size = pool-size (step .old) in
-        let L = pool-simple (step .old) in
-        let kept = subst (λ f. T (not (f v))) edge-redone t in
-        tabulate-reads (netYield (Q .graph) (Q .plain .anchors)) (pos 0) n v b
-        ∙ ap (λ R. netYield (R .graph) (R .plain .anchors) v) edged-next
-        ∙ kept-yield G H L (edge-simple G e L S) (sym (edge-size G e)) A A (ends e) v (omega arith) refl (λ a. edge-neighbors G e v (no-end G L e S A v a kept)) kept
-        ∙ sym (tabulate-reads (netYield G A) (pos 0) n v b)
+    -- every row that is not recomputed keeps its yield and its reached count
+    module _ (v : ℕ) (b : v < n) (t : T (not (redone v))) where
+      untouched : T (not (edgeStale P e v))
+      untouched = subst (λ f. T (not (f v))) edge-redone t
+
+      pub edge-yields : yield-in Q v ≡ yield-in P v
+      unfolding netYield
+      edge-yields = reads-same (pos 0) netYield v b (ap (λ R. netYield (R .graph) (R .plain .anchors) v) edged-next
+          ∙ row-kept least A A (net G A) (net H A) v refl (λ a. edge-net G (pool-simple (step .old)) e S A v (vertex v b) a untouched))
+
+      pub edge-reaches : reached-in Q v ≡ reached-in P v
+      unfolding reachedCount
+      edge-reaches = reads-same 0 reachedCount v b (ap (λ R. reachedCount (R .graph) (R .plain .anchors) v) edged-next
+          ∙ row-kept 65535 A A (reached G A) (reached H A) v refl (λ a. edge-reached G (pool-simple (step .old)) e S A v (vertex v b) a untouched))

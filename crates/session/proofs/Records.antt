@@ -1,4 +1,4 @@
--- The record of a pool: its bytes say who is anchored, the search accepts it, and its yields and climbs are the defined ones.
+-- The record of a pool: its bytes say who is anchored, the search accepts it, and its yields, reached counts and climbs are the defined ones.
 -- Assumes nothing.
 use mathlib.Core.Path.{_≡_, sym, ap, ap₂, _∙_, subst, fun-ext}
 use mathlib.Core.Bool.{Bool, not, cond}
@@ -17,7 +17,7 @@ use Rattle.table.specs.declared.Guard.the-variants.{Passed}
 use Rattle.table.proofs.Laws.{sound}
 use Rattle.anchored.specs.Graph.{Graph, Simple}
 use Rattle.anchored.specs.Core.{level, layer}
-use Rattle.anchored.specs.Followers.{followers, reached}
+use Rattle.anchored.specs.Followers.{followers, reached, reachedCount}
 use Rattle.anchored.specs.Yield.{least, bareLevel, climb, net, netYield, climbed}
 use Rattle.anchored.specs.Events.{Pool}
 use Rattle.pool.specs.Input.{anchoredBy, admitOf}
@@ -91,7 +91,7 @@ module _ {n : ℕ} {P : Pool} (stands : Standing n P) where
       }
 
   -- the search from a vertex that is not anchored accepts the record
-  pub search-at : (x : ℕ) → x < n → T (not (A x)) → followersOf starts links bytes levels layers x n ≡ Found (followers G A x) (reached G A x) (sizeOf starts links)
+  search-at : (x : ℕ) → x < n → T (not (A x)) → followersOf starts links bytes levels layers x n ≡ Found (followers G A x) (reached G A x) (sizeOf starts links)
   search-at x b free =
       let same = stands .vertices in
       let table = sound starts links (stands .checked) in
@@ -109,6 +109,19 @@ module _ {n : ℕ} {P : Pool} (stands : Standing n P) where
   pub yield-free : (v : ℕ) → v < n → T (not (A v)) → getD (tabulate (netYield G A) n) v (pos 0) ≡ net G A v
   unfolding netYield
   yield-free v b t = tabulate-reads (netYield G A) (pos 0) n v b ∙ rw (false-of (A v) t)
+
+  -- the reached count of an anchored vertex, and of any other
+  pub reached-anchored : (v : ℕ) → v < n → T (A v) → getD (tabulate (reachedCount G A) n) v 0 ≡ 65535
+  unfolding reachedCount
+  reached-anchored v b t = tabulate-at (reachedCount G A) n v b ∙ rw (true-of (A v) t)
+
+  reached-free : (v : ℕ) → v < n → T (not (A v)) → getD (tabulate (reachedCount G A) n) v 0 ≡ reached G A v
+  unfolding reachedCount
+  reached-free v b t = tabulate-at (reachedCount G A) n v b ∙ rw (false-of (A v) t)
+
+  -- so the search answers the record's own reached count
+  pub search-reached : (x : ℕ) → x < n → T (not (A x)) → followersOf starts links bytes levels layers x n ≡ Found (followers G A x) (getD (tabulate (reachedCount G A) n) x 0) (sizeOf starts links)
+  search-reached x b free = search-at x b free ∙ ap (λ k. Found (followers G A x) k (sizeOf starts links)) (sym (reached-free x b free))
 
   -- the net yield by the record's level
   pub yield-made : (v : ℕ) → v < n → net G A v ≡ pos (followers G A v) -ℤ pos (getD levels v 0 - bareLevel G v)

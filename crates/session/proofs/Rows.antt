@@ -1,14 +1,13 @@
 -- The status of an event, and the rows that it does not recompute. Assumes nothing.
-use mathlib.Core.Path.{_≡_, sym, subst}
+use mathlib.Core.Path.{_≡_, sym}
 use mathlib.Core.Bool.{Bool, not}
-use Prim.Native.Nat.{ℕ, _<_}
+use Prim.Native.Nat.{ℕ}
 use lib.Dec.{T}
 use Rattle.finite.proofs.Tests.{split, true-of, false-of}
-use Rattle.anchored.specs.Graph.{Graph, Simple}
-use Rattle.anchored.specs.Yield.{netYield}
+use Rattle.anchored.specs.Graph.{Graph}
 use Rattle.anchored.specs.Step.{recomputed}
 use Rattle.anchored.specs.Events.{Event, Pool, eventStatus}
-use Rattle.anchored.proofs.Step.{kept-net}
+use Rattle.anchored.proofs.Session.{rowNumber}
 
 -- ---- the status of an event
 
@@ -24,10 +23,8 @@ module _ (P : Pool) (e : Event) where
 pub recomputed-same : {G G′ H H′ : Graph} {A A′ B B′ E E′ : ℕ → Bool} → G ≡ G′ → H ≡ H′ → A ≡ A′ → B ≡ B′ → E ≡ E′ → recomputed G H A B E ≡ recomputed G′ H′ A′ B′ E′
 recomputed-same g h a b e = rw (g, h, a, b, e)
 
--- a row that is not recomputed keeps its yield, if the vertex keeps its neighbors and is anchored before exactly if it is after
-module _ (G H : Graph) (L : Simple G) (M : Simple H) (size : G .size ≡ H .size) (A B E : ℕ → Bool) where
-  pub kept-yield : (v : ℕ) → v < G .size → A v ≡ B v → (T (not (A v)) → G .neighbors v ≡ H .neighbors v) → T (not (recomputed G H A B E v)) → netYield H B v ≡ netYield G A v
-  unfolding netYield
-  kept-yield v b same list kept = rw (sym same) (split (A v)
-      (λ a. rw (true-of (A v) a))
-      (λ a. rw (false-of (A v) a) (sym (kept-net G H L M size A B E v b a (subst (λ c. T (not c)) same a) (list a) kept))))
+-- a number of a row is kept, if the vertex is anchored before exactly if it is after, and the number of a vertex not anchored is the same
+pub row-kept : {X : Type 0} (top : X) (A B : ℕ → Bool) (before after : ℕ → X) (v : ℕ) → A v ≡ B v → (T (not (A v)) → before v ≡ after v) → rowNumber top B after v ≡ rowNumber top A before v
+row-kept top A B before after v same kept = rw (sym same) (split (A v)
+    (λ a. rw (true-of (A v) a))
+    (λ a. rw (false-of (A v) a) (sym (kept a))))

@@ -71,6 +71,7 @@ pub record Fits (n m : ℕ) (lent : Slices) : Type 0 where
   pub layers : length (lent .layers) ≡ n
   pub components : length (lent .components) ≡ n
   pub yields : length (lent .yields) ≡ n
+  pub reached : length (lent .reached) ≡ n
   pub stamps : length (lent .stamps) ≡ n
   pub status : length (lent .status) ≡ m
   pub lifted : length (lent .lifted) ≡ m
@@ -86,7 +87,8 @@ sized-fits {n} {m} {lent} t =
       layers = record-long _ (inr (inr (inl refl)));
       components = record-long _ (inr (inr (inr (inl refl))));
       yields = record-long _ (inr (inr (inr (inr (inl refl)))));
-      stamps = record-long _ (inr (inr (inr (inr (inr (inl refl))))));
+      reached = record-long _ (inr (inr (inr (inr (inr (inl refl))))));
+      stamps = record-long _ (inr (inr (inr (inr (inr (inr (inl refl)))))));
       status = number-long _ (inl refl);
       lifted = number-long _ (inr (inl refl));
       redone = number-long _ (inr (inr (inl refl)));

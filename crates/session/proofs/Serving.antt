@@ -1,6 +1,6 @@
 -- A session served event by event: what holds when i events are done, and the record at the end. Assumes nothing.
 use mathlib.Core.Path.{_≡_, refl, sym, ap, ap₂, _∙_, subst}
-use mathlib.Core.Bool.{Bool}
+use mathlib.Core.Bool.{Bool, true}
 use mathlib.Core.List.{List, [], _++_}
 use Prim.Native.Nat.{ℕ, _+_, _-_, _<_}
 use native.Mathlib.Omega.{arith}
@@ -11,6 +11,7 @@ use Rattle.table.specs.Table.{vertices}
 use Rattle.anchored.specs.Graph.{Graph}
 use Rattle.anchored.specs.Core.{level, layer}
 use Rattle.anchored.specs.Component.{component}
+use Rattle.anchored.specs.Followers.{reachedCount}
 use Rattle.anchored.specs.Yield.{netYield}
 use Rattle.anchored.specs.Session.{Row, after}
 use Rattle.anchored.specs.Events.{Pool, eventRow, eventTurn, afterEvents}
@@ -18,7 +19,7 @@ use Rattle.anchored.proofs.Events.{events-more}
 use Rattle.pool.specs.Input.{graphOf, anchoredBy, Admitted}
 use Rattle.pool.specs.Arrays.{Holds}
 use Rattle.stale.specs.Columns.{ColumnsOf}
-use Rattle.records.specs.Record.{Stands, Keeps, sessionOf}
+use Rattle.records.specs.Record.{rowReached, Stands, Keeps, sessionOf}
 use Rattle.records.specs.Yield.{yieldAt}
 use Rattle.records.specs.declared.Record.{Record}
 use Rattle.records.proofs.Nets.{right-yield}
@@ -60,6 +61,7 @@ module _ (G : Graph) (given : List ℕ) (events : Lists) where
   pub record Serving (starts₀ links₀ status₀ lifted₀ redone₀ starts links status lifted redone : List ℕ) (kept : Record) (i : ℕ) : Type 0 where
     pub table : Tabled starts links (poolAt i .graph)
     pub keeps : Keeps starts links kept (poolAt i .plain)
+    pub reaching : kept .reaching ≡ true
     pub starts-long : length starts ≡ length starts₀
     pub links-long : length links ≡ length links₀
     pub statuses : Filled (λ k. rowFrom k .status) status₀ status i
@@ -71,12 +73,13 @@ pub runs-admitted : {s l m given : List ℕ} {events : Lists} {G : Graph} → Ru
 runs-admitted runs table = record { table = table .sound; long = omega (arith, runs .long); bytes = runs .bytes }
 
 -- at the start
-pub serving-none : {s l given status lifted redone : List ℕ} {events : Lists} {kept : Record} → Tabled s l (graphOf s l) → Keeps s l kept (sessionOf s l given [] 0)
+pub serving-none : {s l given status lifted redone : List ℕ} {events : Lists} {kept : Record} → Tabled s l (graphOf s l) → Keeps s l kept (sessionOf s l given [] 0) → kept .reaching ≡ true
     → Serving (graphOf s l) given events s l status lifted redone s l status lifted redone kept 0
 unfolding after afterEvents
-serving-none {status = status} {lifted = lifted} {redone = redone} table keeps = record {
+serving-none {status = status} {lifted = lifted} {redone = redone} table keeps reaching = record {
   table = table;
   keeps = keeps;
+  reaching = reaching;
   starts-long = refl;
   links-long = refl;
   statuses = filled-none _ status;
@@ -108,6 +111,7 @@ module _ {G : Graph} {given : List ℕ} {events : Lists} {s₀ l₀ status₀ li
             stamps = λ v h. turned .stands .stamps v h ∙ after .stamps v h;
           };
         };
+        reaching = turned .reaching ∙ now .reaching;
         starts-long = starts-kept ∙ now .starts-long;
         links-long = links-kept ∙ now .links-long;
         statuses = filled-more _ status₀ status i (left .row .status) (ap (λ z. z .status) same) hs (now .statuses);
@@ -118,12 +122,12 @@ module _ {G : Graph} {given : List ℕ} {events : Lists} {s₀ l₀ status₀ li
   -- all of them, from a graph that is the same
   pub serving-all : {H : Graph} → G ≡ H → i ≡ size events → length status₀ ≡ size events → length lifted₀ ≡ size events → length redone₀ ≡ size events
       → let end = poolAt H given events (size events) in
-      (Tabled s l (end .graph) × Keeps s l kept (end .plain))
+      (Tabled s l (end .graph) × Keeps s l kept (end .plain) × (kept .reaching ≡ true))
       × ((status ≡ tabulate (λ k. rowFrom H given events k .status) (size events))
       × ((lifted ≡ tabulate (λ k. rowFrom H given events k .lifted) (size events)) × (redone ≡ tabulate (λ k. rowFrom H given events k .redone) (size events))))
   serving-all {H} same end hs hl hr =
       let done = subst (λ g. Serving g given events s₀ l₀ status₀ lifted₀ redone₀ s l status lifted redone kept i) same now in (
-        subst (λ k. let P = poolAt H given events k in Tabled s l (P .graph) × Keeps s l kept (P .plain)) end (done .table, done .keeps),
+        subst (λ k. let P = poolAt H given events k in Tabled s l (P .graph) × Keeps s l kept (P .plain) × (kept .reaching ≡ true)) end (done .table, done .keeps, done .reaching),
         (filled-all _ _ _ _ _ (done .statuses) end hs, (filled-all _ _ _ _ _ (done .lifts) end hl, filled-all _ _ _ _ _ (done .redos) end hr)),
       )
 
@@ -158,6 +162,13 @@ module _ {s l : List ℕ} {kept : Record} {P : Pool} {n : ℕ} (table : Tabled s
 
   pub end-yields : (v : ℕ) → v < n → yieldAt kept v ≡ netYield (P .graph) A v
   end-yields v h = right-yield (keeps .right) v (omega arith) ∙ ap₂ (λ g B. netYield g B v) (table .graph) (keeps .stands .anchors)
+
+  pub end-reached : kept .reaching ≡ true → Holds (kept .reached) n (reachedCount (P .graph) A)
+  unfolding reachedCount
+  end-reached reaching v h =
+      keeps .right .reaches v (omega arith)
+      ∙ ap (λ b. rowReached b (graphOf s l) (anchoredBy (kept .anchored)) v) reaching
+      ∙ ap₂ (λ g B. rowReached true g B v) (table .graph) (keeps .stands .anchors)
 
   pub end-stamps : Holds (kept .stamp) n (P .plain .stamps)
   end-stamps v h = keeps .stands .stamps v (omega arith)

@@ -1,4 +1,4 @@
--- Demand 3 of document 01, with document 02, cards 4 and 6: one claim about the whole list of events, over the tables and records that the
+-- Demand 3 of document 01, with document 02, cards 4, 6 and 10: one claim about the whole list of events, over the tables and records that the
 -- calls on its prefixes leave.
 use mathlib.Core.Path.{_≡_}
 use mathlib.Core.Bool.{Bool, not, cond, _&&_, _||_}
@@ -15,7 +15,7 @@ use Rattle.table.specs.declared.Guard.the-variants.{Passed}
 use Rattle.anchored.specs.Graph.{Graph}
 use Rattle.anchored.specs.Core.{level, layer}
 use Rattle.anchored.specs.Component.{component}
-use Rattle.anchored.specs.Followers.{adding, followers, reached}
+use Rattle.anchored.specs.Followers.{adding, followers}
 use Rattle.anchored.specs.Yield.{least, bareLevel}
 use Rattle.anchored.specs.Step.{recomputed}
 use Rattle.anchored.specs.Session.{Row}
@@ -91,9 +91,10 @@ module _ (s l given : List ℕ) (events : Lists) where
     pub levels : upto i .levels ≡ tabulate (level (graph i) (set i)) n
     pub layers : upto i .layers ≡ tabulate (layer (graph i) (set i)) n
     pub components : upto i .components ≡ tabulate (component (graph i) (set i)) n
-    -- the (net) yield of an anchored vertex reads -32,768, any other is what the search answers less the level above the bare one
-    pub anchored : (v : ℕ) → v < n → T (set i v) → getD (upto i .yields) v (pos 0) ≡ least
-    pub search : (v : ℕ) → v < n → T (not (set i v)) → searched i v ≡ Found (followers (graph i) (set i) v) (reached (graph i) (set i) v) (sizeAt i)
+    -- of an anchored vertex the (net) yield reads -32,768, the reached count 65,535
+    pub anchored : (v : ℕ) → v < n → T (set i v) → (getD (upto i .yields) v (pos 0) ≡ least) × (getD (upto i .reached) v 0 ≡ 65535)
+    -- from any other the search answers its followers and its reached count; the yield is these followers less the level above the bare one
+    pub search : (v : ℕ) → v < n → T (not (set i v)) → searched i v ≡ Found (followers (graph i) (set i) v) (getD (upto i .reached) v 0) (sizeAt i)
     pub yields : (v : ℕ) → v < n → T (not (set i v)) → getD (upto i .yields) v (pos 0) ≡ pos (followers (graph i) (set i) v) -ℤ pos (getD (upto i .levels) v 0 - bareLevel (graph i) v)
 
   -- its table, bytes and stamps are the plain session's
@@ -108,7 +109,7 @@ module _ (s l given : List ℕ) (events : Lists) where
     pub links : upto (i + 1) .links ≡ upto i .links
     pub anchored : set (i + 1) ≡ adding (set i) x
     -- the search from x, with the table and the sheet just before, answers the number shown as lifted: so many are marked 2
-    pub search : searched i x ≡ Found (shown i .lifted) (reached (graph i) (set i) x) (sizeAt i)
+    pub search : searched i x ≡ Found (shown i .lifted) (getD (upto i .reached) x 0) (sizeAt i)
     pub lifted : shown i .lifted ≡ count (λ v. eqb (getD (marks i x) v 0) 2) (below n)
     -- x apart, changed levels are exactly those of the vertices marked 2, each up by one
     pub levels : (v : ℕ) → v < n → (v ≡ x → ⊥) → getD (upto (i + 1) .levels) v 0 ≡ getD (upto i .levels) v 0 + bit (eqb (getD (marks i x) v 0) 2)
@@ -116,8 +117,9 @@ module _ (s l given : List ℕ) (events : Lists) where
     pub stamped : (v : ℕ) → v < n → T (eqb x v || redone i v) → getD (upto (i + 1) .stamps) v 0 ≡ i + 1
     pub counted : shown i .redone ≡ count (redone i) (below n)
     pub uncounted : T (not (redone i x))
-    -- every other row keeps its yield and its stamp
+    -- every other row keeps its yield, its reached count and its stamp
     pub kept-yields : (v : ℕ) → v < n → T (not (eqb x v || redone i v)) → getD (upto (i + 1) .yields) v (pos 0) ≡ getD (upto i .yields) v (pos 0)
+    pub kept-reached : (v : ℕ) → v < n → T (not (eqb x v || redone i v)) → getD (upto (i + 1) .reached) v 0 ≡ getD (upto i .reached) v 0
     pub kept-stamps : (v : ℕ) → v < n → T (not (eqb x v || redone i v)) → getD (upto (i + 1) .stamps) v 0 ≡ getD (upto i .stamps) v 0
 
   -- event i adds an edge, or drops it
@@ -131,8 +133,9 @@ module _ (s l given : List ℕ) (events : Lists) where
     -- the rows recomputed get the position as their stamp, and no other
     pub stamped : (v : ℕ) → v < n → T (redone i v) → getD (upto (i + 1) .stamps) v 0 ≡ i + 1
     pub counted : shown i .redone ≡ count (redone i) (below n)
-    -- every other row keeps its yield and its stamp
+    -- every other row keeps its yield, its reached count and its stamp
     pub kept-yields : (v : ℕ) → v < n → T (not (redone i v)) → getD (upto (i + 1) .yields) v (pos 0) ≡ getD (upto i .yields) v (pos 0)
+    pub kept-reached : (v : ℕ) → v < n → T (not (redone i v)) → getD (upto (i + 1) .reached) v 0 ≡ getD (upto i .reached) v 0
     pub kept-stamps : (v : ℕ) → v < n → T (not (redone i v)) → getD (upto (i + 1) .stamps) v 0 ≡ getD (upto i .stamps) v 0
 
   -- event i is refused: it shows 0 and 0, and neither the table nor the record changes
@@ -146,6 +149,7 @@ module _ (s l given : List ℕ) (events : Lists) where
     pub layers : upto (i + 1) .layers ≡ upto i .layers
     pub components : upto (i + 1) .components ≡ upto i .components
     pub yields : upto (i + 1) .yields ≡ upto i .yields
+    pub reached : upto (i + 1) .reached ≡ upto i .reached
     pub stamps : upto (i + 1) .stamps ≡ upto i .stamps
 
   -- none of the k events after the first i is an accepted one that adds or drops an edge

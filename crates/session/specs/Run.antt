@@ -13,6 +13,7 @@ use Rattle.table.specs.declared.Guard.{Guard}
 use Rattle.table.specs.declared.Guard.the-variants.{Passed}
 use Rattle.anchored.specs.Core.{level, layer}
 use Rattle.anchored.specs.Component.{component}
+use Rattle.anchored.specs.Followers.{reachedCount}
 use Rattle.anchored.specs.Yield.{netYield}
 use Rattle.anchored.specs.Session.{Row}
 use Rattle.anchored.specs.Events.{Event, Pool, eventsOf, eventRow, afterEvents}
@@ -53,17 +54,18 @@ pub record Slices : Type 0 where
   pub layers : List ℕ
   pub components : List ℕ
   pub yields : List ℤ
+  pub reached : List ℕ
   pub stamps : List ℕ
   pub status : List ℕ
   pub lifted : List ℕ
   pub redone : List ℕ
 
-abbrev pub slices : List ℕ → List ℕ → List ℕ → List ℕ → List ℕ → List ℕ → List ℤ → List ℕ → List ℕ → List ℕ → List ℕ → Slices
-slices s l a k j c y t z u r = record { starts = s; links = l; anchored = a; levels = k; layers = j; components = c; yields = y; stamps = t; status = z; lifted = u; redone = r }
+abbrev pub slices : List ℕ → List ℕ → List ℕ → List ℕ → List ℕ → List ℕ → List ℤ → List ℕ → List ℕ → List ℕ → List ℕ → List ℕ → Slices
+slices s l a k j c y w t z u r = record { starts = s; links = l; anchored = a; levels = k; layers = j; components = c; yields = y; reached = w; stamps = t; status = z; lifted = u; redone = r }
 
 -- the lengths of the record's slices, and of those with a number for each event
 abbrev pub records : Slices → List ℕ
-records x = length (x .anchored) ∷ length (x .levels) ∷ length (x .layers) ∷ length (x .components) ∷ length (x .yields) ∷ length (x .stamps) ∷ []
+records x = length (x .anchored) ∷ length (x .levels) ∷ length (x .layers) ∷ length (x .components) ∷ length (x .yields) ∷ length (x .reached) ∷ length (x .stamps) ∷ []
 
 abbrev pub numbers : Slices → List ℕ
 numbers x = length (x .status) ∷ length (x .lifted) ∷ length (x .redone) ∷ []
@@ -108,6 +110,7 @@ ended s l given e =
     (tabulate (layer G A) (vertices s))
     (tabulate (component G A) (vertices s))
     (tabulate (netYield G A) (vertices s))
+    (tabulate (reachedCount G A) (vertices s))
     (tabulate (end .plain .stamps) (vertices s))
     (tabulate (λ i. rowAt s l given e i .status) (size e))
     (tabulate (λ i. rowAt s l given e i .lifted) (size e))

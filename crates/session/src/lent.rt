@@ -23,17 +23,26 @@ pub fn copy_sheet(kept: Record, levels: &mut [u16], layers: &mut [u16], componen
     pool::lent::copy(&component, components);
 }
 
-// Copies its anchored bytes and stamps out, and writes its net yields.
-pub fn copy_rows(kept: Record, anchored: &mut [u8], yields: &mut [i16], stamps: &mut [u16])
-    requires { ⌜ (length (now anchored) ≤ 1024) × (length (now yields) ≤ 1024) × (length (now stamps) ≤ 1024) ⌝ }
+// Copies its anchored bytes, reached counts and stamps out, and writes its net yields.
+pub fn copy_rows(
+    kept: Record,
+    anchored: &mut [u8],
+    yields: &mut [i16],
+    reached: &mut [u16],
+    stamps: &mut [u16],
+)
+    requires { ⌜ (length (now anchored) ≤ 1024) × (length (now yields) ≤ 1024) × (length (now reached) ≤ 1024) × (length (now stamps) ≤ 1024) ⌝ }
     requires { ⌜ Smalls kept (length (now yields)) ⌝ }
     ensures anchored { λ _. ⌜ final anchored ≡ tabulate (λ v. getD (kept .anchored) v 0) (length (old anchored)) ⌝ }
     ensures yields { λ _. ⌜ final yields ≡ tabulate (yieldAt kept) (length (old yields)) ⌝ }
+    ensures reached { λ _. ⌜ final reached ≡ tabulate (λ v. getD (kept .reached) v 0) (length (old reached)) ⌝ }
     ensures stamps { λ _. ⌜ final stamps ≡ tabulate (λ v. getD (kept .stamp) v 0) (length (old stamps)) ⌝ }
 {
     let bytes = kept.anchored;
+    let counts = kept.reached;
     let stamp = kept.stamp;
     pool::lent::copy_bytes(&bytes, anchored);
     records::yields::write_yields(kept, yields);
+    pool::lent::copy(&counts, reached);
     pool::lent::copy(&stamp, stamps);
 }

@@ -1,6 +1,6 @@
 // A session: the record at the start, each event on what the one before left, and the table and the record at the end.
 ghost use mathlib.Core.Path.{_≡_};
-ghost use mathlib.Core.Bool.{cond, _&&_};
+ghost use mathlib.Core.Bool.{true, cond, _&&_};
 ghost use lib.ListN.{length};
 ghost use lib.Dec.{T, ltb, eqb};
 ghost use Rattle.finite.specs.Count.{tabulate};
@@ -43,7 +43,7 @@ fn serve(
     requires { ⌜ length (now redone) ≡ length (now kinds) ⌝ }
     ensures kept { λ r.
         let end = poolOf (old starts) (old links) (old given) (lists (old kinds) (old firsts) (old seconds)) (length (old kinds)) in
-        ⌜ Tabled (final starts) (final links) (end .graph) × Keeps (final starts) (final links) r (end .plain) ⌝ }
+        ⌜ Tabled (final starts) (final links) (end .graph) × Keeps (final starts) (final links) r (end .plain) × (r .reaching ≡ true) ⌝ }
     ensures status { λ _.
         let events = lists (old kinds) (old firsts) (old seconds) in
         ⌜ final status ≡ tabulate (λ i. rowAt (old starts) (old links) (old given) events i .status) (length (old kinds)) ⌝ }
@@ -55,7 +55,7 @@ fn serve(
         ⌜ final redone ≡ tabulate (λ i. rowAt (old starts) (old links) (old given) events i .redone) (length (old kinds)) ⌝ }
 {
     edit::lent::zero_behind(starts, links);
-    let mut kept = records::begin::begin(starts, links, given);
+    let mut kept = records::begin::begin(starts, links, given, true);
     let mut i: usize = 0;
     while i < kinds.len() {
         let first = firsts[i] as usize;
@@ -84,16 +84,19 @@ fn write(
     layers: &mut [u16],
     components: &mut [u16],
     yields: &mut [i16],
+    reached: &mut [u16],
     stamps: &mut [u16],
     status: &mut [u16],
     lifted: &mut [u16],
     redone: &mut [u16],
 )
     requires { ⌜ Runs (now starts) (now links) (now given) (lists (now kinds) (now firsts) (now seconds)) ⌝ }
-    requires { let lent = slices (now starts) (now links) (now anchored) (now levels) (now layers) (now components) (now yields) (now stamps) (now status) (now lifted) (now redone) in
+    requires { let lent = slices (now starts) (now links) (now anchored) (now levels) (now layers) (now components)
+        (now yields) (now reached) (now stamps) (now status) (now lifted) (now redone) in
         ⌜ T (sized (vertices (now starts)) (length (now kinds)) lent) ⌝ }
     ensures { λ _.
-        let after = slices (final starts) (final links) (final anchored) (final levels) (final layers) (final components) (final yields) (final stamps) (final status) (final lifted) (final redone) in
+        let after = slices (final starts) (final links) (final anchored) (final levels) (final layers) (final components)
+        (final yields) (final reached) (final stamps) (final status) (final lifted) (final redone) in
         ⌜ after ≡ ended (old starts) (old links) (old given) (lists (old kinds) (old firsts) (old seconds)) ⌝ }
 {
     let kept = serve(
@@ -108,7 +111,7 @@ fn write(
         redone,
     );
     super::lent::copy_sheet(kept, levels, layers, components);
-    super::lent::copy_rows(kept, anchored, yields, stamps);
+    super::lent::copy_rows(kept, anchored, yields, reached, stamps);
 }
 
 // Refusals 11 and 12, or `Passed`: `records` and `numbers` are the lengths of the lent slices, to be n and `count`, the number of events.
@@ -178,6 +181,7 @@ pub fn run(
     layers: &mut [u16],
     components: &mut [u16],
     yields: &mut [i16],
+    reached: &mut [u16],
     stamps: &mut [u16],
     status: &mut [u16],
     lifted: &mut [u16],
@@ -185,8 +189,10 @@ pub fn run(
 ) -> Ran
     ensures { λ r.
         let events = lists (old kinds) (old firsts) (old seconds) in
-        let lent = slices (old starts) (old links) (old anchored) (old levels) (old layers) (old components) (old yields) (old stamps) (old status) (old lifted) (old redone) in
-        let after = slices (final starts) (final links) (final anchored) (final levels) (final layers) (final components) (final yields) (final stamps) (final status) (final lifted) (final redone) in
+        let lent = slices (old starts) (old links) (old anchored) (old levels) (old layers) (old components)
+        (old yields) (old reached) (old stamps) (old status) (old lifted) (old redone) in
+        let after = slices (final starts) (final links) (final anchored) (final levels) (final layers) (final components)
+        (final yields) (final reached) (final stamps) (final status) (final lifted) (final redone) in
         let guard = runOf (old given) events lent in
         ⌜ (r ≡ answer guard (Served (sizeOf (old starts) (old links))) Refused) × (after ≡ held guard (ended (old starts) (old links) (old given) events) lent) ⌝ }
     ensures claim { λ r.
@@ -200,6 +206,7 @@ pub fn run(
         layers.len(),
         components.len(),
         yields.len(),
+        reached.len(),
         stamps.len(),
     ];
     let numbers = [status.len(), lifted.len(), redone.len()];
@@ -220,6 +227,7 @@ pub fn run(
                 layers,
                 components,
                 yields,
+                reached,
                 stamps,
                 status,
                 lifted,

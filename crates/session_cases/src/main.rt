@@ -1,5 +1,5 @@
-// Runs sessions on the chain of document 01, with edges added and dropped on it, without vertices, and with as many events as a session
-// takes and one more. The lent slices are parts of arrays of 7s, the places past the last link too; of each but the anchored bytes the
+// Runs sessions on the chain of document 01, without events, with edges added and dropped on it, without vertices, and with as many events
+// as a session takes and one more. The lent slices are parts of arrays of 7s, the places past the last link too; of each but the anchored bytes the
 // first eight places are printed.
 ghost use Prim.Native.Nat.{_≤_};
 ghost use lib.ListN.{length};
@@ -58,6 +58,7 @@ fn run(
     let mut layers = [7u16; 4];
     let mut components = [7u16; 4];
     let mut yields = [7i16; 4];
+    let mut reached = [7u16; 4];
     let mut stamps = [7u16; 4];
     let mut status = [7u16; 4097];
     let mut lifted = [7u16; 4097];
@@ -74,6 +75,7 @@ fn run(
         &mut layers[..n],
         &mut components[..n],
         &mut yields[..n],
+        &mut reached[..n],
         &mut stamps[..n],
         &mut status[..m],
         &mut lifted[..m],
@@ -84,6 +86,7 @@ fn run(
     rows(name, b" stamps: levels: layers", &stamps, &levels, &layers);
     row(name, b" components", &components);
     print_yields(name, &yields);
+    row(name, b" reached", &reached);
 }
 
 // The table with 7s behind its links, its events, and the table after them.
@@ -140,6 +143,15 @@ fn run_limits() {
 }
 
 fn run_chains() {
+    run_on(
+        b"still",
+        &mut [0, 1, 3, 5, 6],
+        &[1, 0, 2, 1, 3, 2],
+        &[0, 0, 0, 0],
+        &[],
+        &[],
+        &[],
+    );
     run_on(
         b"chain",
         &mut [0, 1, 3, 5, 6],

@@ -14,24 +14,23 @@ use Rattle.finite.specs.Count.{bit, count, below}
 use Rattle.finite.proofs.Tests.{split, true-of, false-of, of-true, and-l, neqb}
 use Rattle.finite.proofs.Count.{set-reads, in-below, length-below, count-length, count-cong, count-below-zero, count-below-more}
 use Rattle.table.specs.Table.{vertices}
-use Rattle.anchored.specs.Graph.{Graph}
+use Rattle.anchored.specs.Graph.{Graph, Simple}
 use Rattle.anchored.specs.Followers.{adding, followers, followerCount}
 use Rattle.anchored.specs.Step.{recomputed}
 use Rattle.anchored.specs.Yield.{nobody}
 use Rattle.anchored.specs.Session.{Plain, stale, statusOf, rowOf, turn}
-use Rattle.anchored.proofs.Anchor.{free-of}
-use Rattle.anchored.proofs.Step.{kept-followers}
-use Rattle.anchored.proofs.Session.{status-free, turn-accepted, turn-refused, row-accepted, renewed-fresh}
+use Rattle.anchored.proofs.Session.{rowNumber, status-free, turn-accepted, turn-refused, row-accepted, renewed-fresh, anchor-followers, anchor-reached}
 use Rattle.pool.specs.Input.{graphOf, anchoredBy, Admitted}
 use Rattle.pool.specs.Arrays.{Holds}
 use Rattle.pool.proofs.Laws.{simple}
 use Rattle.stale.specs.Columns.{ColumnsOf}
 use Rattle.stale.specs.declared.Columns.{Columns}
-use Rattle.records.specs.Record.{Right, plainOf, Stands}
-use Rattle.step.specs.Turn.{rowAs, Turned}
-use Rattle.step.specs.Rows.{staleBy, Renewed, Redone}
+use Rattle.records.specs.Record.{reachedIf, rowReached, Right, plainOf, Stands}
 use Rattle.records.specs.declared.Record.{Record}
 use Rattle.records.proofs.Nets.{right-count}
+use Rattle.step.specs.Turn.{rowAs, accepting, Turned}
+use Rattle.step.specs.Rows.{staleBy, Rows, rows, rowsOf, Renewed, Redone}
+use Rattle.step.specs.declared.Stepped.{Stepped}
 
 -- ---- bytes
 
@@ -61,79 +60,78 @@ below-other u v n = split (ltb v u)
     (λ t. rw (true-of (ltb v u) t) (lt-ltb v (u + 1) (omega (arith, ltb→lt v u t))))
     (λ t. rw (false-of (ltb v u) t) (le-ltb v (u + 1) (⊎-elim (λ e. absurd (n e)) (λ l. omega arith) (eq-or-lt-of-le (nltb→le v u t)))))
 
-module _ (p : ℕ → Bool) (f : ℕ → ℕ) (old : List ℕ) where
+module _ {p : ℕ → Bool} {f : ℕ → ℕ} {old : List ℕ} where
   renewed-begin : Renewed p f old old 0
-  renewed-begin v = rw (le-ltb v 0 zero-le)
+  renewed-begin = record { places = λ v. rw (le-ltb v 0 zero-le); long = refl }
 
-  -- a row that does not pass is left as it is
-  renewed-skip : (new : List ℕ) (u : ℕ) → p u ≡ false → Renewed p f old new u → Renewed p f old new (u + 1)
-  renewed-skip new u e r v = r v ∙ ap (λ b. cond b (f v) (getD old v 0)) (sym (split (eqb u v)
-      (λ t. let q : p v ≡ false = ap p (sym (eqb→eq u v t)) ∙ e in rw q (and-false (ltb v (u + 1)) ∙ sym (and-false (ltb v u))))
-      (λ t. ap (λ b. b && p v) (below-other u v (neqb u v t)))))
+  module _ {new : List ℕ} {u : ℕ} (r : Renewed p f old new u) where
+    -- a row that does not pass is left as it is
+    renewed-skip : p u ≡ false → Renewed p f old new (u + 1)
+    renewed-skip e = record {
+      places = λ v. r .places v ∙ ap (λ b. cond b (f v) (getD old v 0)) (sym (split (eqb u v)
+          (λ t. let q : p v ≡ false = ap p (sym (eqb→eq u v t)) ∙ e in rw q (and-false (ltb v (u + 1)) ∙ sym (and-false (ltb v u))))
+          (λ t. ap (λ b. b && p v) (below-other u v (neqb u v t)))));
+      long = r .long;
+    }
 
-  -- one that passes gets its value
-  renewed-more : (new : List ℕ) (u : ℕ) → p u ≡ true → u < length new → Renewed p f old new u → Renewed p f old (set new u (f u)) (u + 1)
-  renewed-more new u e h r v = set-reads new u (f u) v (λ q. h) ∙ split (eqb u v)
-      (λ t. subst (λ z. cond (eqb u z) (f u) (getD new z 0) ≡ cond (ltb z (u + 1) && p z) (f z) (getD old z 0)) (eqb→eq u v t)
-      (rw (eq-eqb u u refl, lt-ltb u (u + 1) (omega arith), e)))
-      (λ t. rw (false-of (eqb u v) t, below-other u v (neqb u v t)) (r v))
+    -- one that passes gets its value
+    renewed-more : (x : ℕ) → x ≡ f u → p u ≡ true → u < length old → Renewed p f old (set new u x) (u + 1)
+    renewed-more x q e h = record {
+      places = λ v. ap (λ z. getD (set new u z) v 0) q ∙ set-reads new u (f u) v (λ k. omega (arith, r .long)) ∙ split (eqb u v)
+          (λ t. subst (λ z. cond (eqb u z) (f u) (getD new z 0) ≡ cond (ltb z (u + 1) && p z) (f z) (getD old z 0)) (eqb→eq u v t)
+          (rw (eq-eqb u u refl, lt-ltb u (u + 1) (omega arith), e)))
+          (λ t. rw (false-of (eqb u v) t, below-other u v (neqb u v t)) (r .places v));
+      long = length-set new u x ∙ r .long;
+    }
 
-  renewed-all : (new : List ℕ) (n : ℕ) → Renewed p f old new n → (v : ℕ) → v < n → getD new v 0 ≡ cond (p v) (f v) (getD old v 0)
-  renewed-all new n r v h = rw (lt-ltb v n h) at (r v)
+    -- so in the end
+    renewed-all : (v : ℕ) → v < u → getD new v 0 ≡ cond (p v) (f v) (getD old v 0)
+    renewed-all v h = rw (lt-ltb v u h) at (r .places v)
 
-  -- tests alike below u renew alike
-  renewed-cong : (q : ℕ → Bool) (new : List ℕ) (u : ℕ) → ((v : ℕ) → v < u → p v ≡ q v) → Renewed p f old new u → Renewed q f old new u
-  renewed-cong q new u e r v =
-      let alike : ltb v u && p v ≡ ltb v u && q v = split (ltb v u) (λ t. rw (true-of (ltb v u) t) (e v (ltb→lt v u t))) (λ t. rw (false-of (ltb v u) t)) in
-      r v ∙ ap (λ b. cond b (f v) (getD old v 0)) alike
+    -- tests alike below u renew alike
+    renewed-cong : {q : ℕ → Bool} → ((v : ℕ) → v < u → p v ≡ q v) → Renewed q f old new u
+    renewed-cong {q} e = record {
+      places = λ v.
+          let alike : ltb v u && p v ≡ ltb v u && q v = split (ltb v u) (λ t. rw (true-of (ltb v u) t) (e v (ltb→lt v u t))) (λ t. rw (false-of (ltb v u) t)) in
+          r .places v ∙ ap (λ b. cond b (f v) (getD old v 0)) alike;
+      long = r .long;
+    }
 
--- what a row worked afresh gets
-abbrev fresh : List ℕ → List ℕ → List ℕ → ℕ → ℕ
-fresh s l a = followers (graphOf s l) (anchoredBy a)
-
-module _ {s l a : List ℕ} {p : ℕ → Bool} {position : ℕ} {fol st : List ℕ} where
+module _ {s l a : List ℕ} {reaching : Bool} {p : ℕ → Bool} {position : ℕ} {old : Rows} where
   -- before the first row
-  pub redone-begin : Redone s l a p position fol st fol st 0 0
-  redone-begin = record {
-    counts = renewed-begin p (fresh s l a) fol;
-    stamps = renewed-begin p (λ v. position) st;
-    counts-long = refl;
-    stamps-long = refl;
-    number = sym (count-below-zero p);
-  }
+  pub redone-begin : Redone s l a reaching p position old old 0 0
+  redone-begin = record { counts = renewed-begin; reaches = renewed-begin; stamps = renewed-begin; number = sym (count-below-zero p) }
 
-  module _ {folNow stNow : List ℕ} {redone u : ℕ} (r : Redone s l a p position fol st folNow stNow redone u) where
+  module _ {new : Rows} {redone u : ℕ} (r : Redone s l a reaching p position old new redone u) where
     pub redone-le : redone ≤ u
     redone-le = omega (arith, r .number, count-length p (below u), length-below u)
 
     -- a row that is not stale
-    pub redone-skip : p u ≡ false → Redone s l a p position fol st folNow stNow redone (u + 1)
+    pub redone-skip : p u ≡ false → Redone s l a reaching p position old new redone (u + 1)
     redone-skip e = record {
-      counts = renewed-skip p (fresh s l a) fol folNow u e (r .counts);
-      stamps = renewed-skip p (λ v. position) st stNow u e (r .stamps);
-      counts-long = r .counts-long;
-      stamps-long = r .stamps-long;
+      counts = renewed-skip (r .counts) e;
+      reaches = renewed-skip (r .reaches) e;
+      stamps = renewed-skip (r .stamps) e;
       number = omega (arith, r .number, count-below-more p u, ap bit e);
     }
 
-    -- a stale row gets its fresh count and the stamp
-    pub redone-more : (anew : ℕ) → anew ≡ fresh s l a u → p u ≡ true → u < length fol → u < length st
-        → Redone s l a p position fol st (set folNow u anew) (set stNow u position) (redone + 1) (u + 1)
-    redone-more anew q e hf hs = record {
-      counts = subst (λ z. Renewed p (fresh s l a) fol (set folNow u z) (u + 1)) (sym q) (renewed-more p (fresh s l a) fol folNow u e (omega (arith, r .counts-long)) (r .counts));
-      stamps = renewed-more p (λ v. position) st stNow u e (omega (arith, r .stamps-long)) (r .stamps);
-      counts-long = length-set folNow u anew ∙ r .counts-long;
-      stamps-long = length-set stNow u position ∙ r .stamps-long;
+    -- a stale row gets its fresh counts and the stamp
+    pub redone-more : (counted found : ℕ) → counted ≡ followers (graphOf s l) (anchoredBy a) u → found ≡ reachedIf reaching (graphOf s l) (anchoredBy a) u → p u ≡ true
+        → u < length (old .followers) → u < length (old .reached) → u < length (old .stamps)
+        → Redone s l a reaching p position old (rows (set (new .followers) u counted) (set (new .reached) u found) (set (new .stamps) u position)) (redone + 1) (u + 1)
+    redone-more counted found c f e hc hf hs = record {
+      counts = renewed-more (r .counts) counted c e hc;
+      reaches = renewed-more (r .reaches) found f e hf;
+      stamps = renewed-more (r .stamps) position refl e hs;
       number = omega (arith, r .number, count-below-more p u, ap bit e);
     }
 
     -- the rows that pass may be named by another test
-    pub redone-named : {q : ℕ → Bool} → ((v : ℕ) → v < u → p v ≡ q v) → Redone s l a q position fol st folNow stNow redone u
+    pub redone-named : {q : ℕ → Bool} → ((v : ℕ) → v < u → p v ≡ q v) → Redone s l a reaching q position old new redone u
     redone-named {q} e = record {
-      counts = renewed-cong p (fresh s l a) fol q folNow u e (r .counts);
-      stamps = renewed-cong p (λ v. position) st q stNow u e (r .stamps);
-      counts-long = r .counts-long;
-      stamps-long = r .stamps-long;
+      counts = renewed-cong (r .counts) e;
+      reaches = renewed-cong (r .reaches) e;
+      stamps = renewed-cong (r .stamps) e;
       number = r .number ∙ count-cong p q (below u) (λ v i. e v (in-below u v .0 i));
     }
 
@@ -158,26 +156,38 @@ module _ {s l : List ℕ} {kept : Record} (right : Right s l kept) (x : ℕ) (bx
   bytes-after : anchoredBy bytes ≡ adding A x
   bytes-after = anchored-set (kept .anchored) x (omega (arith, right .admitted .long))
 
+  -- a column of counts in which the recomputed rows are worked afresh is right with 65,535 put at x, where the other rows keep their count
+  module _ (number : (ℕ → Bool) → ℕ → ℕ) (same : (v : ℕ) → v < vertices s → T (not (adding A x v)) → T (not (stale G A x v)) → number A v ≡ number (adding A x) v) (old new : List ℕ)
+      (held : Holds old (vertices s) (rowNumber 65535 A (number A))) (long : x < length new) where
+    fresh-column : Renewed (stale G A x) (number (adding A x)) old new (vertices s) → Holds (set new x 65535) (vertices s) (rowNumber 65535 (adding A x) (number (adding A x)))
+    fresh-column renews v h =
+        set-reads new x 65535 v (λ e. long)
+        ∙ ap (cond (eqb x v) 65535) (renewed-all renews v h)
+        ∙ ap (λ z. cond (eqb x v) 65535 (cond (stale G A x v) (number (adding A x) v) z)) (held v h)
+        ∙ renewed-fresh 65535 G A x number v (same v h)
+
+    column-after : Renewed (recomputed G G A (anchoredBy bytes) nobody) (number (anchoredBy bytes)) old new (vertices s)
+        → Holds (set new x 65535) (vertices s) (rowNumber 65535 (anchoredBy bytes) (number (anchoredBy bytes)))
+    column-after = subst (λ B. Renewed (recomputed G G A B nobody) (number B) old new (vertices s) → Holds (set new x 65535) (vertices s) (rowNumber 65535 B (number B)))
+        (sym bytes-after) fresh-column
+
   -- where the recomputed rows are counted afresh and stamped
-  module _ {position : ℕ} {folNow stNow : List ℕ} {redone : ℕ} (r : Redone s l bytes (recomputed G G A (anchoredBy bytes) nobody) position (kept .followers) (kept .stamp) folNow stNow redone (vertices s)) where
-    fresh-counts : Renewed (stale G A x) (followers G (adding A x)) (kept .followers) folNow (vertices s)
-        → Holds (set folNow x 65535) (vertices s) (followerCount G (adding A x))
+  module _ {position : ℕ} {new : Rows} {redone : ℕ} (r : Redone s l bytes (kept .reaching) (recomputed G G A (anchoredBy bytes) nobody) position (rowsOf kept) new redone (vertices s)) where
+    L : Simple G
+    L = simple (right .admitted .table)
+
+    counts-after : Holds (set (new .followers) x 65535) (vertices s) (followerCount G (anchoredBy bytes))
     unfolding followerCount
-    fresh-counts counts v h =
-        set-reads folNow x 65535 v (λ e. omega (arith, r .counts-long, right .counts-long))
-        ∙ ap (cond (eqb x v) 65535) (renewed-all (stale G A x) (followers G (adding A x)) (kept .followers) folNow (vertices s) counts v h)
-        ∙ ap (λ z. cond (eqb x v) 65535 (cond (stale G A x v) (followers G (adding A x) v) z)) (right .counts v h)
-        ∙ renewed-fresh 65535 G A x (followers G) v (λ t k. kept-followers G G (simple (right .admitted .table)) (simple (right .admitted .table)) refl A (adding A x) nobody v h (free-of A x v t) t refl k)
+    counts-after = column-after (followers G) (anchor-followers G L A x) (kept .followers) (new .followers) (right .counts) (omega (arith, r .counts .long, right .counts-long)) (r .counts)
 
-    -- with 65,535 put at x the follower counts are right
-    counts-after : Holds (set folNow x 65535) (vertices s) (followerCount G (anchoredBy bytes))
-    counts-after = subst (λ B. Renewed (recomputed G G A B nobody) (followers G B) (kept .followers) folNow (vertices s) → Holds (set folNow x 65535) (vertices s) (followerCount G B))
-        (sym bytes-after) fresh-counts (r .counts)
+    reaches-after : Holds (set (new .reached) x 65535) (vertices s) (rowReached (kept .reaching) G (anchoredBy bytes))
+    reaches-after = column-after (reachedIf (kept .reaching) G) (λ v h t k. ap (λ z. cond (kept .reaching) z 0) (anchor-reached G L A x v h t k))
+        (kept .reached) (new .reached) (right .reaches) (omega (arith, r .reaches .long, right .reaches-long)) (r .reaches)
 
-    fresh-stamps : Renewed (stale G A x) (λ v. position) (kept .stamp) stNow (vertices s) → Holds (set stNow x position) (vertices s) (turn G position x S .stamps)
+    fresh-stamps : Renewed (stale G A x) (λ v. position) (kept .stamp) (new .stamps) (vertices s) → Holds (set (new .stamps) x position) (vertices s) (turn G position x S .stamps)
     fresh-stamps stamps v h =
-        set-reads stNow x position v (λ e. omega (arith, r .stamps-long, right .stamps-long))
-        ∙ ap (cond (eqb x v) position) (renewed-all (stale G A x) (λ v. position) (kept .stamp) stNow (vertices s) stamps v h)
+        set-reads (new .stamps) x position v (λ e. omega (arith, r .stamps .long, right .stamps-long))
+        ∙ ap (cond (eqb x v) position) (renewed-all stamps v h)
         ∙ either (eqb x v) (stale G A x v)
         ∙ ap (λ P. P .stamps v) (sym (turn-accepted G S x position accepted))
       where
@@ -186,8 +196,8 @@ module _ {s l : List ℕ} {kept : Record} (right : Right s l kept) (x : ℕ) (bx
         either false c = refl
 
     -- with the position put at x the stamps are those of the plain session's turn
-    stamps-after : Holds (set stNow x position) (vertices s) (turn G position x S .stamps)
-    stamps-after = subst (λ B. Renewed (recomputed G G A B nobody) (λ v. position) (kept .stamp) stNow (vertices s) → Holds (set stNow x position) (vertices s) (turn G position x S .stamps))
+    stamps-after : Holds (set (new .stamps) x position) (vertices s) (turn G position x S .stamps)
+    stamps-after = subst (λ B. Renewed (recomputed G G A B nobody) (λ v. position) (kept .stamp) (new .stamps) (vertices s) → Holds (set (new .stamps) x position) (vertices s) (turn G position x S .stamps))
         (sym bytes-after) fresh-stamps (r .stamps)
 
     -- the numbers are those of the request
@@ -200,29 +210,46 @@ module _ {s l : List ℕ} {kept : Record} (right : Right s l kept) (x : ℕ) (bx
     row-counted = ap (λ (n : ℕ). rowAs (record { status = 0; lifted = n; redone = redone })) (right-count right x bx free) ∙ sym row-after
 
     -- so the fresh columns and these rows are one turn of the plain session
-    pub turned : {columns : Columns} → Admitted s l bytes → ColumnsOf G (anchoredBy bytes) columns → Turned s l position x kept (record {
-      kept = record { anchored = bytes; columns = columns; bare = kept .bare; followers = set folNow x 65535; stamp = set stNow x position };
-      row = record { status = 0; lifted = getD (kept .followers) x 0; redone = redone };
-    })
-    turned admits defined = record {
+    pub turned : {columns : Columns} {left : Stepped} → Admitted s l bytes → ColumnsOf G (anchoredBy bytes) columns
+        → left ≡ accepting (record {
+          anchored = bytes;
+          columns = columns;
+          bare = kept .bare;
+          followers = set (new .followers) x 65535;
+          reaching = kept .reaching;
+          reached = set (new .reached) x 65535;
+          stamp = set (new .stamps) x position;
+        }) (getD (kept .followers) x 0) redone
+        → Turned s l position x kept left
+    turned {left = left} admits defined leaves = subst (Turned s l position x kept) (sym leaves) record {
       right = record {
         admitted = admits;
         columns = defined;
         bares = right .bares;
         counts = counts-after;
-        counts-long = omega (arith, length-set folNow x 65535, r .counts-long, right .counts-long);
-        stamps-long = omega (arith, length-set stNow x position, r .stamps-long, right .stamps-long);
+        counts-long = omega (arith, length-set (new .followers) x 65535, r .counts .long, right .counts-long);
+        reaches = reaches-after;
+        reaches-long = omega (arith, length-set (new .reached) x 65535, r .reaches .long, right .reaches-long);
+        stamps-long = omega (arith, length-set (new .stamps) x position, r .stamps .long, right .stamps-long);
       };
+      reaching = refl;
       stands = record { anchors = bytes-after ∙ ap (λ P. P .anchors) (sym (turn-accepted G S x position accepted)); stamps = stamps-after };
       row = row-counted;
     }
 
 -- ---- the session
 
--- a stale row is not that of an anchored vertex: its count is that of its followers
-pub stale-count : (G : Graph) (a marks : List ℕ) (u : ℕ) → staleBy a marks u ≡ true → followerCount G (anchoredBy a) u ≡ followers G (anchoredBy a) u
-unfolding followerCount
-stale-count G a marks u e = rw (false-of (anchoredBy a u) (and-l (not (anchoredBy a u)) _ (of-true _ e)))
+-- a stale row is not that of an anchored vertex: its counts are those of its vertex
+module _ (G : Graph) (a marks : List ℕ) (u : ℕ) (e : staleBy a marks u ≡ true) where
+  stale-free : anchoredBy a u ≡ false
+  stale-free = false-of (anchoredBy a u) (and-l (not (anchoredBy a u)) _ (of-true _ e))
+
+  pub stale-count : followerCount G (anchoredBy a) u ≡ followers G (anchoredBy a) u
+  unfolding followerCount
+  stale-count = rw stale-free
+
+  pub stale-reached : (reaching : Bool) → rowReached reaching G (anchoredBy a) u ≡ reachedIf reaching G (anchoredBy a) u
+  stale-reached reaching = rw stale-free
 
 -- the two halves of what a request leaves
 turn-anchors : (G : Graph) (position x : ℕ) (S : Plain) → turn G position x S .anchors ≡ cond (eqb (statusOf G (S .anchors) x) 0) (adding (S .anchors) x) (S .anchors)
@@ -267,6 +294,7 @@ module _ {s l : List ℕ} {kept : Record} (right : Right s l kept) (position x :
       let off : eqb (statusOf (graphOf s l) (anchoredBy (kept .anchored)) x) 0 ≡ false = ne-eqb (statusOf (graphOf s l) (anchoredBy (kept .anchored)) x) 0 (λ z. absurd (omega arith)) in
       record {
         right = right;
+        reaching = refl;
         stands = subst (Stands (vertices s) kept) (sym (turn-refused (graphOf s l) (plainOf kept) x position (λ z. absurd (omega arith)))) record { anchors = refl; stamps = λ v b. refl };
         row = rw (off, e);
       }

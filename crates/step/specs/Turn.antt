@@ -15,8 +15,13 @@ use Rattle.step.specs.declared.Stepped.{Stepped}
 abbrev pub rowAs : Row → PlainRow
 rowAs row = record { status = row .status; lifted = row .lifted; redone = row .redone }
 
--- what request x at a position leaves of a right record: exactly one turn of the plain session
+-- what an accepted request leaves: the record and two numbers
+abbrev pub accepting : Record → ℕ → ℕ → Stepped
+accepting kept lifted redone = record { kept = kept; row = record { status = 0; lifted = lifted; redone = redone } }
+
+-- what request x at a position leaves of a right record: exactly one turn of the plain session; reached counts are kept as before
 pub record Turned (s l : List ℕ) (position x : ℕ) (kept : Record) (left : Stepped) : Type 0 where
   pub right : Right s l (left .kept)
+  pub reaching : left .kept .reaching ≡ kept .reaching
   pub stands : Stands (vertices s) (left .kept) (turn (graphOf s l) position x (plainOf kept))
   pub row : rowAs (left .row) ≡ rowOf (graphOf s l) (plainOf kept) x

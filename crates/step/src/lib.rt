@@ -7,8 +7,8 @@ ghost use Rattle.table.specs.Table.{vertices};
 ghost use Rattle.pool.specs.Input.{graphOf, anchoredBy, Admitted};
 ghost use Rattle.stale.specs.Columns.{ColumnsOf};
 ghost use Rattle.records.specs.Record.{Right};
-ghost use Rattle.step.specs.Turn.{Turned};
-ghost use Rattle.step.specs.Rows.{Redone, staleBy};
+ghost use Rattle.step.specs.Turn.{accepting, Turned};
+ghost use Rattle.step.specs.Rows.{rows, Redone, staleBy};
 use records::Record;
 use stale::Columns;
 
@@ -36,7 +36,7 @@ fn is_stale(anchored: &[u8; 1024], marks: &[u8; 1024], u: usize) -> bool
     marks[u] == 1
 }
 
-// The stale rows are counted afresh and stamped, and no other; how many they are.
+// The stale rows are counted afresh, with reached counts or without, and stamped, and no other; how many they are.
 pub fn redo(
     starts: &[u16],
     links: &[u16],
@@ -44,16 +44,21 @@ pub fn redo(
     columns: Columns,
     marks: &[u8; 1024],
     position: u16,
+    reaching: bool,
     followers: &mut [u16; 1024],
+    reached: &mut [u16; 1024],
     stamp: &mut [u16; 1024],
 ) -> usize
     requires { ⌜ Admitted (now starts) (now links) (now anchored) ⌝ }
     requires { ⌜ ColumnsOf (graphOf (now starts) (now links)) (anchoredBy (now anchored)) columns ⌝ }
     requires { ⌜ vertices (now starts) ≤ length (now followers) ⌝ }
+    requires { ⌜ vertices (now starts) ≤ length (now reached) ⌝ }
     requires { ⌜ vertices (now starts) ≤ length (now stamp) ⌝ }
     ensures { λ r.
         let test = staleBy (old anchored) (old marks) in
-        ⌜ Redone (old starts) (old links) (old anchored) test position (old followers) (old stamp) (final followers) (final stamp) r (vertices (old starts)) ⌝ }
+        let before = rows (old followers) (old reached) (old stamp) in
+        let after = rows (final followers) (final reached) (final stamp) in
+        ⌜ Redone (old starts) (old links) (old anchored) reaching test position before after r (vertices (old starts)) ⌝ }
 {
     let n = starts.len() - 1;
     let level = columns.level;
@@ -62,20 +67,37 @@ pub fn redo(
     let mut u: usize = 0;
     while u < n {
         if is_stale(anchored, marks, u) {
-            followers[u] = records::afresh::count_followers(
+            let counts = records::afresh::count_row(
                 starts,
                 links,
                 anchored,
                 &level,
                 &layer,
                 u,
+                reaching,
             );
+            followers[u] = counts.followers;
+            reached[u] = counts.reached;
             stamp[u] = position;
             redone += 1;
         }
         u += 1;
     }
     redone
+}
+
+// What an accepted request leaves.
+pub fn accepted(kept: Record, lifted: u16, redone: u16) -> Stepped
+    ensures { λ r. ⌜ r ≡ accepting kept lifted redone ⌝ }
+{
+    Stepped {
+        kept,
+        row: Row {
+            status: 0,
+            lifted,
+            redone,
+        },
+    }
 }
 
 // x, not anchored, is anchored too.
@@ -92,7 +114,9 @@ fn accept(starts: &[u16], links: &[u16], kept: Record, x: usize, position: u16) 
     let bound = [0u8; 1024];
     let mut marks = [0u8; 1024];
     stale::mark_stale(starts, links, kept.columns, columns, &bound, &mut marks);
+    let reaching = kept.reaching;
     let mut followers = kept.followers;
+    let mut reached = kept.reached;
     let mut stamp = kept.stamp;
     let lifted = followers[x];
     let redone = redo(
@@ -102,25 +126,24 @@ fn accept(starts: &[u16], links: &[u16], kept: Record, x: usize, position: u16) 
         columns,
         &marks,
         position,
+        reaching,
         &mut followers,
+        &mut reached,
         &mut stamp,
     );
     followers[x] = 65535;
+    reached[x] = 65535;
     stamp[x] = position;
-    Stepped {
-        kept: Record {
-            anchored,
-            columns,
-            bare,
-            followers,
-            stamp,
-        },
-        row: Row {
-            status: 0,
-            lifted,
-            redone: redone as u16,
-        },
-    }
+    let next = Record {
+        anchored,
+        columns,
+        bare,
+        followers,
+        reaching,
+        reached,
+        stamp,
+    };
+    accepted(next, lifted, redone as u16)
 }
 
 // One request on a record that is right: 15 for no vertex, 16 for an anchored one, and else accepted.

@@ -1,7 +1,7 @@
 //! What is measured. Both sides of a line run on the same pool, one after the other.
 
 use crate::clock;
-use crate::sessions::{run, List};
+use crate::sessions::{fresh_reached, run, List};
 use planner::{Input, Record};
 use pools::{Pool, Random};
 use reference::quick::{self, Cores, TwoWorkings};
@@ -216,6 +216,7 @@ pub fn search(seeds: &[u64]) -> Vec<Line> {
         )
         .map(|pass| pass / POOLS as f64);
         assert_eq!(record.yields, yields);
+        assert_eq!(record.reached, fresh_reached(plain(&pools[POOLS - 1]), &none));
         let alone = (start - fresh) / 1000.0;
         lines[0].times.push((searches / 1000.0, fresh));
         lines[1].times.push((alone, fresh));

@@ -38,6 +38,11 @@ fn fresh_rows(pool: quick::Pool, set: &[bool], bare: &[u16]) -> Vec<i16> {
     quick::net_yields(pool, set, bare)
 }
 
+/// How many the search from each vertex reaches: compared, and not timed with the plain side.
+pub fn fresh_reached(pool: quick::Pool, set: &[bool]) -> Vec<u16> {
+    quick::reached_counts(pool, set, &quick::sheet(pool, set))
+}
+
 /// A session by bare levels once, and fresh rows at the start and after each name; the net yields at the end.
 fn fresh_session(pool: &Pool, names: &[u16]) -> Vec<i16> {
     let (mut set, bare) = (vec![false; pool.size()], quick::bare_levels(plain(pool)));
@@ -70,6 +75,8 @@ pub fn anchoring(seeds: &[u64]) -> Vec<Line> {
         let (mut record, mut whole, mut yields) = (Record::room(1024, FEW), Record::room(1024, 1000), vec![]);
         let few = times(3, 1, [&mut || run(&mut lent, &first, &mut record), &mut || yields = fresh_session(&pool, &list[..FEW])]);
         assert_eq!(record.yields, yields);
+        let anchored: Vec<bool> = record.anchored.iter().map(|&byte| byte == 1).collect();
+        assert_eq!(record.reached, fresh_reached(plain(&pool), &anchored));
         let all = time(&mut || run(&mut lent, &all, &mut whole));
         assert!(whole.status.iter().all(|&status| status == 0));
         let (mut set, mut sampled, bare) = (vec![false; 1024], vec![], quick::bare_levels(plain(&pool)));
@@ -80,6 +87,7 @@ pub fn anchoring(seeds: &[u64]) -> Vec<Line> {
             }
         }
         assert_eq!(whole.yields, yields);
+        assert_eq!(whole.reached, fresh_reached(plain(&pool), &set));
         lines[0].times.push((few[0], few[1]));
         lines[1].times.push((all / 1000.0, sampled.iter().sum::<f64>() / sampled.len() as f64));
     }
@@ -106,17 +114,20 @@ fn edge_events(pool: &Pool, random: &mut Random) -> Vec<Event> {
     (0..MANY).map(|_| event()).collect()
 }
 
-/// What one event takes in a session of many, the session's start left out; the net yields at the end.
-fn event_time(pool: &Pool, events: &[Event]) -> (f64, Vec<i16>) {
+/// The net yields and the reached counts at the end.
+type Rows = (Vec<i16>, Vec<u16>);
+
+/// What one event takes in a session of many, the session's start left out.
+fn event_time(pool: &Pool, events: &[Event]) -> (f64, Rows) {
     let (lent, list, none) = (pool.lent(0), List::new(events), List::default());
     let (mut record, mut empty) = (Record::room(pool.size(), MANY), Record::room(pool.size(), 0));
     let [all, start] = times(3, 1, [&mut || run(&mut lent.clone(), &list, &mut record), &mut || run(&mut lent.clone(), &none, &mut empty)]);
     assert!(record.status.iter().all(|&status| status == 0));
-    ((all - start) / MANY as f64, record.yields)
+    ((all - start) / MANY as f64, (record.yields, record.reached))
 }
 
 /// What plain Rust takes for one of the events on average: the table or the set changed, bare levels where an edge did, every row afresh.
-fn plain_time(pool: &Pool, events: &[Event]) -> (f64, Vec<i16>) {
+fn plain_time(pool: &Pool, events: &[Event]) -> (f64, Rows) {
     let (mut set, mut table) = (vec![false; pool.size()], quick::Table::new(plain(pool)));
     let (mut bare, mut yields, mut sampled) = (quick::bare_levels(plain(pool)), vec![], vec![]);
     for (i, &Event { kind, first, second }) in events.iter().enumerate() {
@@ -136,7 +147,7 @@ fn plain_time(pool: &Pool, events: &[Event]) -> (f64, Vec<i16>) {
         });
         sampled.extend(is_sampled.then_some(taken));
     }
-    (sampled.iter().sum::<f64>() / sampled.len() as f64, yields)
+    (sampled.iter().sum::<f64>() / sampled.len() as f64, (yields, fresh_reached(table.pool(), &set)))
 }
 
 /// One event on 1,000 vertices and 5,000 random edges: a vertex anchored, an edge added or dropped.

@@ -52,8 +52,9 @@ extern "C" {
         starts: *mut u16, starts_len: usize, links: *mut u16, links_len: usize, given: *const u8, given_len: usize,
         kinds: *const u16, kinds_len: usize, firsts: *const u16, firsts_len: usize, seconds: *const u16, seconds_len: usize,
         anchored: *mut u8, anchored_len: usize, levels: *mut u16, levels_len: usize, layers: *mut u16, layers_len: usize,
-        components: *mut u16, components_len: usize, yields: *mut i16, yields_len: usize, stamps: *mut u16, stamps_len: usize,
-        status: *mut u16, status_len: usize, lifted: *mut u16, lifted_len: usize, redone: *mut u16, redone_len: usize,
+        components: *mut u16, components_len: usize, yields: *mut i16, yields_len: usize, reached: *mut u16, reached_len: usize,
+        stamps: *mut u16, stamps_len: usize, status: *mut u16, status_len: usize, lifted: *mut u16, lifted_len: usize,
+        redone: *mut u16, redone_len: usize,
     ) -> Answer;
     pub fn planner_text_to_sheet(text: *const u8, text_len: usize, sheet: *mut u8, sheet_len: usize) -> Sheeted;
 }

@@ -111,8 +111,10 @@ pub struct Events<'a> {
     pub seconds: &'a [u16],
 }
 
-/// What a session fills: six slices of a number for each vertex, three of a number for each event. A net yield is how many followers the
-/// vertex has, less what it has climbed above its level with nobody anchored; it is -32,768 for an anchored vertex.
+/// What a session fills: seven slices of a number for each vertex, three of a number for each event. A net yield is how many followers the
+/// vertex has, less what it has climbed above its level with nobody anchored; it is -32,768 for an anchored vertex. Beside it stands how
+/// many vertices the search from the vertex reaches; 65,535 for an anchored one. Both are worked out anew together: a stamp is the position,
+/// from 1, of the event after which they last were, or which anchored the vertex.
 ///
 /// An event's status is 0 if it was done. Else it changed nothing, and is the first of these that holds: 10 its kind is above 2; 6 it adds
 /// or drops an edge between a number and itself; 15 one of its vertices is none; 16 it anchors a vertex that is anchored already; 22 it
@@ -124,6 +126,7 @@ pub struct Record {
     pub layers: Vec<u16>,
     pub components: Vec<u16>,
     pub yields: Vec<i16>,
+    pub reached: Vec<u16>,
     pub stamps: Vec<u16>,
     pub status: Vec<u16>,
     pub lifted: Vec<u16>,
@@ -140,6 +143,7 @@ impl Record {
             layers: vertices.clone(),
             components: vertices.clone(),
             yields: vec![0; n],
+            reached: vertices.clone(),
             stamps: vertices,
             status: events.clone(),
             lifted: events.clone(),
@@ -261,15 +265,16 @@ pub fn share_rounds(input: Input, houses: &[u16], quotas: &[u16], sheet: &mut [u
 /// alone.
 pub fn run(table: Table, given: &[u8], events: Events, record: &mut Record) -> Result<Size, Refusal> {
     let (Table { starts, links }, Events { kinds, firsts, seconds }) = (table, events);
-    let Record { anchored, levels, layers, components, yields, stamps, status, lifted, redone } = record;
+    let Record { anchored, levels, layers, components, yields, reached, stamps, status, lifted, redone } = record;
     // SAFETY: pointers and lengths of live slices, no other borrow of those for writing; the call is proved to stay in them and keeps none.
     unsafe {
         exports::planner_run(
             starts.as_mut_ptr(), starts.len(), links.as_mut_ptr(), links.len(), given.as_ptr(), given.len(),
             kinds.as_ptr(), kinds.len(), firsts.as_ptr(), firsts.len(), seconds.as_ptr(), seconds.len(),
             anchored.as_mut_ptr(), anchored.len(), levels.as_mut_ptr(), levels.len(), layers.as_mut_ptr(), layers.len(),
-            components.as_mut_ptr(), components.len(), yields.as_mut_ptr(), yields.len(), stamps.as_mut_ptr(), stamps.len(),
-            status.as_mut_ptr(), status.len(), lifted.as_mut_ptr(), lifted.len(), redone.as_mut_ptr(), redone.len(),
+            components.as_mut_ptr(), components.len(), yields.as_mut_ptr(), yields.len(), reached.as_mut_ptr(), reached.len(),
+            stamps.as_mut_ptr(), stamps.len(), status.as_mut_ptr(), status.len(), lifted.as_mut_ptr(), lifted.len(),
+            redone.as_mut_ptr(), redone.len(),
         )
     }
     .size()

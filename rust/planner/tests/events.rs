@@ -121,6 +121,11 @@ const MOVES: [[usize; 3]; 2] = [[2_851, 6_882, 2_851], [2_776, 7_032, 2_776]];
 /// Of the same how many change the number of edges, which is each, and how many the greatest degree, counted so too.
 const TURNED: [usize; 2] = [6_344, 3_224];
 
+/// And so: from how many vertices not anchored, before it or after it, the search reaches nobody, followers alone, and others too; of how
+/// many the reached count is lowered, left and raised, and of how many of those changed the net yield stays.
+const WIDTHS: [usize; 3] = [19_912, 3_060, 2_196];
+const REACHED_MOVES: ([usize; 3], usize) = ([1_572, 9_440, 1_572], 1_236);
+
 /// Each of them by the planner's own answers.
 #[test]
 fn moves() {
@@ -134,6 +139,7 @@ fn moves() {
     // 1, 3 and 6 edges in 8, 64 and 1,024 pools, half of them there
     assert_eq!(met.statuses, [((1, 0), 3172), ((2, 0), 3172)].into());
     assert_eq!(([met.levels, met.bare], met.resized), (MOVES, TURNED));
+    assert_eq!((met.widths, (met.reached, met.reached_alone)), (WIDTHS, REACHED_MOVES));
 }
 
 /// A list, after every event, by the planner's own answers and against the naive working.
@@ -176,7 +182,7 @@ fn random_lists() {
     }
     println!("{small} lists of 40 events on random pools to 16 vertices, {large} to 40, after every event: {met:?}");
     assert!(met.statuses.keys().copied().eq(STATUSES) && met.statuses.values().all(|&events| events > 50));
-    let counts = [&met.signs[..], &met.levels, &met.bare, &met.resized].concat();
+    let counts = [&met.signs[..], &met.levels, &met.bare, &met.resized, &met.widths, &met.reached, &[met.reached_alone]].concat();
     assert!(counts.iter().all(|&count| count > 50));
 }
 
@@ -246,56 +252,74 @@ fn full_tables() {
     assert_eq!(left.record.status[15], 23);
 }
 
-/// A session told by hand: edges, anchored bytes and events; of each event status, lifted and redone; stamps and net yields at the end.
-type Told = (&'static [(usize, usize)], &'static [u8], &'static [[u16; 3]], &'static [[u16; 3]], &'static [u16], &'static [i16]);
+/// A session told by hand: edges, anchored bytes and events; of each event status, lifted and redone; stamps, net yields and reached counts
+/// at the end.
+type Told = (
+    &'static [(usize, usize)], &'static [u8], &'static [[u16; 3]],
+    &'static [[u16; 3]], &'static [u16], &'static [i16], &'static [u16],
+);
 
 #[test]
 fn small_examples() {
     const NO: i16 = -32768;
+    const A: u16 = 65535;
     const CHAIN: &[(usize, usize)] = &[(0, 1), (1, 2), (2, 3)];
     const RING: &[(usize, usize)] = &[(0, 2), (0, 3), (1, 2), (1, 3)];
     const PAIRS: &[(usize, usize)] = &[(0, 1), (0, 2)];
-    let cases: [Told; 14] = [
+    let cases: [Told; 16] = [
         // the ring stays one component of level 2 and gets an edge inside: 2 and 3 are redone because they look into it
-        (RING, &[0; 4], &[[1, 0, 1]], &[[0, 0, 4]], &[1; 4], &[0; 4]),
+        (RING, &[0; 4], &[[1, 0, 1]], &[[0, 0, 4]], &[1; 4], &[0; 4], &[0, 0, 2, 2]),
         // so is 3, which would now lift 0 and 1
-        (RING, &[0, 0, 1, 0], &[[1, 0, 1]], &[[0, 0, 3]], &[1, 1, 0, 1], &[0, 0, NO, 2]),
+        (RING, &[0, 0, 1, 0], &[[1, 0, 1]], &[[0, 0, 3]], &[1, 1, 0, 1], &[0, 0, NO, 2], &[0, 0, A, 2]),
         // 1 looks into nothing that changed and keeps both its levels: it is redone because the edge is its own, and would now lift 0
-        (&[(0, 3), (0, 4), (1, 2)], &[0, 0, 0, 1, 1], &[[1, 0, 1]], &[[0, 0, 3]], &[1, 1, 1, 0, 0], &[-1, 1, 1, NO, NO]),
+        (&[(0, 3), (0, 4), (1, 2)], &[0, 0, 0, 1, 1], &[[1, 0, 1]], &[[0, 0, 3]], &[1, 1, 1, 0, 0], &[-1, 1, 1, NO, NO], &[0, 1, 1, A, A]),
         // two anchors are joined and parted: of 0 only the bare level changes
-        (PAIRS, &[0, 1, 1], &[[1, 1, 2]], &[[0, 0, 1]], &[1, 0, 0], &[0, NO, NO]),
-        (PAIRS, &[0, 1, 1], &[[1, 1, 2], [2, 2, 1]], &[[0, 0, 1], [0, 0, 1]], &[2, 0, 0], &[-1, NO, NO]),
+        (PAIRS, &[0, 1, 1], &[[1, 1, 2]], &[[0, 0, 1]], &[1, 0, 0], &[0, NO, NO], &[0, A, A]),
+        (PAIRS, &[0, 1, 1], &[[1, 1, 2], [2, 2, 1]], &[[0, 0, 1], [0, 0, 1]], &[2, 0, 0], &[-1, NO, NO], &[0, A, A]),
         // 0 and 1 climb: 0 is redone because its level changed
-        (PAIRS, &[0, 0, 1, 1], &[[1, 1, 3]], &[[0, 0, 2]], &[1, 1, 0, 0], &[-1, -1, NO, NO]),
+        (PAIRS, &[0, 0, 1, 1], &[[1, 1, 3]], &[[0, 0, 2]], &[1, 1, 0, 0], &[-1, -1, NO, NO], &[0, 0, A, A]),
         // 2 has looked into a component that is gone, and no longer lifts 0
-        (PAIRS, &[0, 1, 0], &[[2, 0, 1]], &[[0, 0, 2]], &[1, 0, 1], &[0, NO, 0]),
+        (PAIRS, &[0, 1, 0], &[[2, 0, 1]], &[[0, 0, 2]], &[1, 0, 1], &[0, NO, 0], &[0, A, 0]),
         // 1 looks into a component that is new, and would lift 0
-        (&[(0, 1)], &[0, 0, 1], &[[1, 0, 2]], &[[0, 0, 2]], &[1, 1, 0], &[0, 1, NO]),
+        (&[(0, 1)], &[0, 0, 1], &[[1, 0, 2]], &[[0, 0, 2]], &[1, 1, 0], &[0, 1, NO], &[0, 1, A]),
         // nobody is redone
-        (&[], &[1, 1], &[[1, 0, 1], [2, 0, 1]], &[[0, 0, 0], [0, 0, 0]], &[0, 0], &[NO, NO]),
+        (&[], &[1, 1], &[[1, 0, 1], [2, 0, 1]], &[[0, 0, 0], [0, 0, 0]], &[0, 0], &[NO, NO], &[A, A]),
         // an edge to an anchor: of the two only the other one's row is redone
-        (&[], &[1, 0], &[[1, 0, 1]], &[[0, 0, 1]], &[0, 1], &[NO, 0]),
-        // the chain becomes a ring, all climb, and a chain again; a pair event lifts nobody
-        (CHAIN, &[0; 4], &[[1, 0, 3], [2, 1, 2]], &[[0, 0, 4], [0, 0, 4]], &[2; 4], &[0; 4]),
+        (&[], &[1, 0], &[[1, 0, 1]], &[[0, 0, 1]], &[0, 1], &[NO, 0], &[A, 0]),
+        // the chain becomes a ring, all climb, and a chain again, with other ends; a pair event lifts nobody
+        (CHAIN, &[0; 4], &[[1, 0, 3], [2, 1, 2]], &[[0, 0, 4], [0, 0, 4]], &[2; 4], &[0; 4], &[0, 1, 1, 0]),
+        // the chain of five gets longer: nobody lifts anybody, before or after; from 3, which keeps both its levels, 2 is reached no more
+        (
+            &[(0, 1), (1, 2), (2, 3), (3, 4)], &[0; 6], &[[1, 4, 5]], &[[0, 0, 5]],
+            &[1, 1, 0, 1, 1, 1], &[0; 6], &[2, 1, 0, 0, 1, 2],
+        ),
+        // 0, 1 and 2 keep their rows
+        (&[(0, 1), (1, 2), (3, 4), (4, 5)], &[0; 6], &[[2, 4, 5]], &[[0, 0, 3]], &[0, 0, 0, 1, 1, 1], &[0; 6], &[1, 0, 1, 0, 0, 0]),
         // each status that a table with places left has
         (
             CHAIN, &[1, 0, 0, 0],
             &[[3, 9, 9], [1, 9, 9], [1, 0, 4], [2, 4, 0], [0, 4, 1], [0, 0, 0], [1, 2, 1], [2, 0, 2], [0, 3, 3], [0, 3, 9]],
             &[[10, 0, 0], [6, 0, 0], [15, 0, 0], [15, 0, 0], [15, 0, 0], [16, 0, 0], [22, 0, 0], [22, 0, 0], [0, 2, 2], [16, 0, 0]],
-            &[0, 9, 9, 9], &[NO, -1, -1, NO],
+            &[0, 9, 9, 9], &[NO, -1, -1, NO], &[A, 0, 0, A],
         ),
         // the same edge is added and dropped from both its ends
-        (&[], &[0, 0], &[[1, 0, 1], [1, 1, 0], [2, 1, 0], [2, 0, 1]], &[[0, 0, 2], [22, 0, 0], [0, 0, 2], [22, 0, 0]], &[3, 3], &[0, 0]),
+        (
+            &[], &[0, 0], &[[1, 0, 1], [1, 1, 0], [2, 1, 0], [2, 0, 1]], &[[0, 0, 2], [22, 0, 0], [0, 0, 2], [22, 0, 0]],
+            &[3, 3], &[0, 0], &[0, 0],
+        ),
         // anchored vertices have edges too: 0 and 2 are joined when both are anchored
-        (CHAIN, &[1, 0, 0, 0], &[[0, 2, 0], [1, 2, 0], [0, 1, 1]], &[[0, 1, 2], [0, 0, 1], [0, 0, 0]], &[0, 3, 1, 1], &[NO, NO, NO, 0]),
+        (
+            CHAIN, &[1, 0, 0, 0], &[[0, 2, 0], [1, 2, 0], [0, 1, 1]], &[[0, 1, 2], [0, 0, 1], [0, 0, 0]],
+            &[0, 3, 1, 1], &[NO, NO, NO, 0], &[A, A, A, 0],
+        ),
     ];
-    for (edges, anchored, events, rows, stamps, yields) in cases {
+    for (edges, anchored, events, rows, stamps, yields, reached) in cases {
         let pool = Pool::of_edges(anchored.len(), edges.iter().copied(), anchored.to_vec());
         let events = events_of(events);
         let record = compare(&pool, &events).record;
         let columns = record.status.iter().zip(&record.lifted).zip(&record.redone);
         assert_eq!(columns.map(|((&status, &lifted), &redone)| [status, lifted, redone]).collect::<Vec<_>>(), rows, "{pool:?} {events:?}");
-        assert_eq!((&record.stamps[..], &record.yields[..]), (stamps, yields), "{pool:?} {events:?}");
+        assert_eq!((&record.stamps[..], &record.yields[..], &record.reached[..]), (stamps, yields, reached), "{pool:?} {events:?}");
     }
 }
 
@@ -330,11 +354,16 @@ fn places_past_the_links() {
 fn limits() {
     let empty = Pool::of_edges(0, [], vec![]);
     let events = events_of(&[[0, 0, 0], [1, 0, 1], [2, 1, 0], [1, 0, 0], [2, 65535, 65535], [3, 0, 0]]);
-    assert_eq!(compare(&empty, &events).record.status, [15, 15, 15, 6, 6, 10]);
+    let record = compare(&empty, &events).record;
+    assert_eq!((&record.status[..], &record.reached[..]), (&[15, 15, 15, 6, 6, 10][..], &[][..]));
     // a chain of 1,024 vertices becomes a ring, all climb, and falls again
     let chain = Pool::of_edges(1024, (0..1023).map(|v| (v, v + 1)), vec![0; 1024]);
-    let left = compare_quick(&chain, &[Event::add_edge(1023, 0), Event::drop_edge(511, 512)]);
-    assert_eq!((left.record.lifted, left.record.redone), (vec![0, 0], vec![1024, 1024]));
+    let [ring, parted] = [Event::add_edge(1023, 0), Event::drop_edge(511, 512)];
+    assert_eq!(compare_quick(&chain, &[ring]).record.reached, [0; 1024]);
+    let record = compare_quick(&chain, &[ring, parted]).record;
+    assert_eq!((record.lifted, record.redone), (vec![0, 0], vec![1024, 1024]));
+    // its ends are 511 and 512 now, and from each half the search goes on to 0 or 1,023 in the middle
+    assert!(record.reached.into_iter().eq((0..512).chain((0..512).rev())));
     // a star loses two of its 1,023 edges, and another edge is added
     let star = Pool::of_edges(1024, (1..1024).map(|v| (0, v)), vec![0; 1024]);
     let left = compare_quick(&star, &[Event::drop_edge(0, 1), Event::drop_edge(1023, 0), Event::add_edge(1, 2), Event::anchor(0)]);

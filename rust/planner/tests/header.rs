@@ -37,6 +37,7 @@ run: 0 0 0, edges 3, max_degree 2
   layers 0 1 1 0
   components 65535 1 2 65535
   yields -32768 0 0 -32768
+  reached 65535 0 0 65535
   stamps 0 3 6 1
   status 0 0 0 22 15 0
   lifted 2 0 0 0 0 0

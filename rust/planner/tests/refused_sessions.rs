@@ -32,10 +32,10 @@ fn more_vertices(call: &mut Call, more: usize) {
     let last = *call.starts.last().unwrap();
     call.starts.extend(vec![last; more]);
     call.given.extend(vec![0; more]);
-    let Record { anchored, levels, layers, components, yields, stamps, .. } = &mut call.record;
+    let Record { anchored, levels, layers, components, yields, reached, stamps, .. } = &mut call.record;
     anchored.extend(vec![7; more]);
     yields.extend(vec![7; more]);
-    for slice in [levels, layers, components, stamps] {
+    for slice in [levels, layers, components, reached, stamps] {
         slice.extend(vec![7; more]);
     }
 }
@@ -114,8 +114,8 @@ fn each_and_two_at_once() {
         }
     }
     println!("{single} damages of a session's call, {pairs} pairs of them");
-    // 1 1 4 2 3 2 1 2 1 3 6 2 1 18 in the groups; all pairs of two groups, but for six
-    assert_eq!((single, pairs), (47, (47 * 47 - 415) / 2 - 6));
+    // 1 1 4 2 3 2 1 2 1 3 6 2 1 20 in the groups; all pairs of two groups, but for six
+    assert_eq!((single, pairs), (49, (49 * 49 - 491) / 2 - 6));
 }
 
 /// Up to five damages at once.

@@ -6,7 +6,9 @@ mod shared;
 use planner::Record;
 use pools::{Pool, Random};
 use reference::{Plain, Session};
-use shared::sessions::{accepted, climbed, compare, compare_damaged, compare_in, compare_quick, compare_with, names, started, Call, Left};
+use shared::sessions::{
+    accepted, climbed, compare, compare_damaged, compare_in, compare_quick, compare_with, count_widths, names, started, Call, Left,
+};
 use shared::{greatest_yield, least_yield, small_pools_by_table, DAMAGES};
 use std::collections::BTreeSet;
 
@@ -45,6 +47,7 @@ struct Lists {
     bare: Vec<u16>,
     sessions: [usize; 4],
     signs: [usize; 3],
+    widths: [usize; 3],
 }
 
 impl Lists {
@@ -52,6 +55,7 @@ impl Lists {
     fn compare(&mut self, pool: &Pool, list: &[u16], session: &Session) -> Record {
         let record = compare_with(pool, &names(list), &self.naive, session).record;
         self.sessions[list.len()] += 1;
+        count_widths(&record, &self.bare, &mut self.widths);
         if list.len() == self.longest {
             return record;
         }
@@ -70,27 +74,33 @@ impl Lists {
 const SIGNS: [usize; 3] = [79_883, 368_774, 87_178];
 const LONG_SIGNS: [usize; 3] = [477_758, 1_705_909, 400_168];
 
+/// Of the vertices not anchored at the end of each of them those from which the search reaches nobody, followers alone, and others too,
+/// counted so too.
+const WIDTHS: [usize; 3] = [2_147_620, 426_778, 143_166];
+const LONG_WIDTHS: [usize; 3] = [10_660_480, 1_858_268, 438_816];
+
 /// Every list of up to two names on all graphs of up to 5 vertices with every anchor set, and of three to 4 vertices.
 #[test]
 fn all_small_graphs() {
-    let (mut sessions, mut signs) = ([0; 4], [0; 3]);
+    let (mut sessions, mut signs, mut widths) = ([0; 4], [0; 3], [0; 3]);
     for same_table in small_pools_by_table(5) {
         let longest = if same_table[0].size() < 5 || pools::long() { 3 } else { 2 };
         let bare = accepted(&same_table[0], &[]).bare_levels();
-        let mut lists = Lists { naive: Plain::default(), longest, bare, sessions, signs };
+        let mut lists = Lists { naive: Plain::default(), longest, bare, sessions, signs, widths };
         for pool in &same_table {
             let session = started(pool, &mut lists.naive);
             lists.compare(pool, &[], &session);
         }
-        Lists { sessions, signs, .. } = lists;
+        Lists { sessions, signs, widths, .. } = lists;
     }
     println!("sessions on all graphs of up to 5 vertices with every anchor set: {sessions:?} of 0, 1, 2 and 3 names");
     println!("the last name accepted, by the sign of its net yield: {signs:?}");
+    println!("vertices not anchored, by whom the search reaches, nobody, followers alone, and others too: {widths:?}");
     // 1, 2, 8, 64, 1,024 and 32,768 pools of 0 to 5 vertices, with 1 to 6 names: for one name 1 + 4 + 24 + 256 + 5,120 + 196,608, for
     // two 1 + 8 + 72 + 1,024 + 25,600 + 1,179,648, for three 1 + 16 + 216 + 4,096 + 128,000
     let three = 132_329 + if pools::long() { 32_768 * 6 * 6 * 6 } else { 0 };
     assert_eq!(sessions, [33_867, 202_013, 1_206_353, three]);
-    assert_eq!(signs, if pools::long() { LONG_SIGNS } else { SIGNS });
+    assert_eq!((signs, widths), if pools::long() { (LONG_SIGNS, LONG_WIDTHS) } else { (SIGNS, WIDTHS) });
 }
 
 /// On the same graphs some longer lists, slices of wrong lengths, too many names, and damage.
@@ -114,8 +124,8 @@ fn all_small_graphs_otherwise() {
         }
     }
     println!("{more} more sessions on them, {wrong} with a wrong length, {damaged} on damaged pools, refusals {seen:?}");
-    // nine slices too short or too long; the six for vertices are not too short where there are none
-    assert_eq!((more, wrong, damaged), (4 * 33_867, 18 * 33_867 - 6, 33_867));
+    // ten slices too short or too long; the seven for vertices are not too short where there are none
+    assert_eq!((more, wrong, damaged), (4 * 33_867, 20 * 33_867 - 7, 33_867));
     assert_eq!(seen, DAMAGES.into());
 }
 
@@ -188,40 +198,56 @@ fn damaged_pools() {
     assert_eq!(seen, DAMAGES.into());
 }
 
-/// A session told by hand: edges, anchored bytes and names; of each name status, lifted and redone; stamps and net yields at the end.
-type Told = (&'static [(usize, usize)], &'static [u8], &'static [u16], &'static [[u16; 3]], &'static [u16], &'static [i16]);
+/// A session told by hand: edges, anchored bytes and names; of each name status, lifted and redone; stamps, net yields and reached counts
+/// at the end.
+type Told = (&'static [(usize, usize)], &'static [u8], &'static [u16], &'static [[u16; 3]], &'static [u16], &'static [i16], &'static [u16]);
 
 #[test]
 fn small_examples() {
     const NO: i16 = -32768;
+    const A: u16 = 65535;
     const CHAIN: &[(usize, usize)] = &[(0, 1), (1, 2), (2, 3)];
     const PAIRS: &[(usize, usize)] = &[(0, 1), (0, 2)];
     const STAR: &[(usize, usize)] = &[(0, 1), (0, 2), (0, 3)];
-    let cases: [Told; 11] = [
-        (CHAIN, &[0, 0, 0, 0], &[], &[], &[0, 0, 0, 0], &[0, 0, 0, 0]),
-        (CHAIN, &[1, 0, 0, 0], &[], &[], &[0, 0, 0, 0], &[NO, 0, 1, 2]),
+    // 3 has two anchored neighbors, 4 is in a triangle, 2 is between them
+    const BETWEEN: &[(usize, usize)] = &[(0, 3), (1, 3), (2, 3), (2, 4), (4, 5), (4, 6), (5, 6)];
+    let cases: [Told; 16] = [
+        // from an end the search reaches its neighbor, which it does not lift
+        (CHAIN, &[0, 0, 0, 0], &[], &[], &[0, 0, 0, 0], &[0, 0, 0, 0], &[1, 0, 0, 1]),
+        (CHAIN, &[1, 0, 0, 0], &[], &[], &[0, 0, 0, 0], &[NO, 0, 1, 2], &[A, 0, 1, 2]),
         // 1 and 2 have climbed a level and lift nobody
-        (CHAIN, &[1, 0, 0, 1], &[], &[], &[0, 0, 0, 0], &[NO, -1, -1, NO]),
-        (CHAIN, &[0, 0, 0, 0], &[0, 0, 3, 9], &[[0, 0, 2], [16, 0, 0], [0, 2, 2], [15, 0, 0]], &[1, 3, 3, 3], &[NO, -1, -1, NO]),
-        (STAR, &[0, 1, 0, 0], &[2], &[[0, 1, 2]], &[1, 0, 1, 1], &[-1, NO, NO, 1]),
+        (CHAIN, &[1, 0, 0, 1], &[], &[], &[0, 0, 0, 0], &[NO, -1, -1, NO], &[A, 0, 0, A]),
+        (
+            CHAIN, &[0, 0, 0, 0], &[0, 0, 3, 9], &[[0, 0, 2], [16, 0, 0], [0, 2, 2], [15, 0, 0]],
+            &[1, 3, 3, 3], &[NO, -1, -1, NO], &[A, 0, 0, A],
+        ),
+        (STAR, &[0, 1, 0, 0], &[2], &[[0, 1, 2]], &[1, 0, 1, 1], &[-1, NO, NO, 1], &[0, A, A, 1]),
         // 0 has no neighbor of greater pair: its row is redone because its level changed
-        (PAIRS, &[0, 1, 0], &[2], &[[0, 1, 1]], &[1, 0, 1], &[-1, NO, NO]),
+        (PAIRS, &[0, 1, 0], &[2], &[[0, 1, 1]], &[1, 0, 1], &[-1, NO, NO], &[0, A, A]),
         // neither 0 nor 3 lifts anybody, and 0 has climbed
-        (PAIRS, &[0, 1, 1, 0], &[], &[], &[0, 0, 0, 0], &[-1, NO, NO, 0]),
-        (PAIRS, &[0, 1, 1, 0], &[3, 0], &[[0, 0, 0], [0, 0, 0]], &[2, 0, 0, 1], &[NO; 4]),
+        (PAIRS, &[0, 1, 1, 0], &[], &[], &[0, 0, 0, 0], &[-1, NO, NO, 0], &[0, A, A, 0]),
+        (PAIRS, &[0, 1, 1, 0], &[3, 0], &[[0, 0, 0], [0, 0, 0]], &[2, 0, 0, 1], &[NO; 4], &[A; 4]),
         // 2 has looked into a component that is gone
-        (PAIRS, &[0, 1, 0], &[0], &[[0, 0, 1]], &[1, 0, 1], &[NO, NO, 0]),
+        (PAIRS, &[0, 1, 0], &[0], &[[0, 0, 1]], &[1, 0, 1], &[NO, NO, 0], &[A, A, 0]),
         // 0 looks into a component that is new
-        (&[(0, 1), (0, 3), (1, 2)], &[0; 4], &[2], &[[0, 0, 2]], &[1, 0, 1, 1], &[1, 0, NO, 2]),
+        (&[(0, 1), (0, 3), (1, 2)], &[0; 4], &[2], &[[0, 0, 2]], &[1, 0, 1, 1], &[1, 0, NO, 2], &[1, 0, A, 2]),
         // 2 looks into its component, of which 0 has one more anchored neighbor
-        (&[(0, 1), (0, 2), (0, 3), (1, 2)], &[0, 1, 0, 0], &[3], &[[0, 0, 1]], &[0, 0, 1, 1], &[0, NO, 1, NO]),
+        (&[(0, 1), (0, 2), (0, 3), (1, 2)], &[0, 1, 0, 0], &[3], &[[0, 0, 1]], &[0, 0, 1, 1], &[0, NO, 1, NO], &[0, A, 1, A]),
+        // 0 is reached from both others; once it is anchored it is not, and their yields are what they were
+        (PAIRS, &[0, 0, 0], &[], &[], &[0, 0, 0], &[0, 0, 0], &[0, 1, 1]),
+        (PAIRS, &[0, 0, 0], &[0], &[[0, 0, 2]], &[1, 1, 1], &[NO, 0, 0], &[A, 0, 0]),
+        // another component's vertex is anchored, and their rows are kept
+        (&[(0, 1), (0, 2), (3, 4)], &[0; 5], &[3], &[[0, 0, 0]], &[0, 0, 0, 1, 0], &[0, 0, 0, NO, 0], &[0, 1, 1, A, 0]),
+        // from 2 the search reaches 3, which it lifts, and 4, which it does not
+        (BETWEEN, &[1, 1, 0, 0, 0, 0, 0], &[], &[], &[0; 7], &[NO, NO, 0, -1, 0, 0, 0], &[A, A, 2, 0, 0, 1, 1]),
+        (BETWEEN, &[1, 1, 0, 0, 0, 0, 0], &[2], &[[0, 1, 3]], &[0, 0, 1, 1, 0, 1, 1], &[NO, NO, NO, -2, 0, 0, 0], &[A, A, A, 0, 0, 1, 1]),
     ];
-    for (edges, anchored, list, rows, stamps, yields) in cases {
+    for (edges, anchored, list, rows, stamps, yields, reached) in cases {
         let pool = Pool::of_edges(anchored.len(), edges.iter().copied(), anchored.to_vec());
         let record = compare(&pool, &names(list)).record;
         let columns = record.status.iter().zip(&record.lifted).zip(&record.redone);
         assert_eq!(columns.map(|((&status, &lifted), &redone)| [status, lifted, redone]).collect::<Vec<_>>(), rows, "{pool:?} {list:?}");
-        assert_eq!((&record.stamps[..], &record.yields[..]), (stamps, yields), "{pool:?} {list:?}");
+        assert_eq!((&record.stamps[..], &record.yields[..], &record.reached[..]), (stamps, yields, reached), "{pool:?} {list:?}");
     }
 }
 
@@ -229,15 +255,22 @@ fn small_examples() {
 fn limits() {
     assert_eq!(compare_quick(&least_yield(), &[]).record.yields[..2], [-1022, -32768]);
     assert_eq!(compare_quick(&least_yield(), &names(&[0, 0])).record.yields, [-32768; 1024]);
-    assert_eq!(compare_quick(&greatest_yield(), &[]).record.yields[1023], 1023);
+    let record = compare_quick(&greatest_yield(), &[]).record;
+    assert_eq!((record.yields[1023], record.reached[1023]), (1023, 1023));
     assert_eq!(compare_quick(&greatest_yield(), &names(&[1023])).record.lifted, [1023]);
+    // up to the middle, though nobody is lifted; and with an end anchored up to it, where all who are reached are
+    let chain = Pool::of_edges(1024, (0..1023).map(|v| (v, v + 1)), vec![0; 1024]);
+    let record = compare_quick(&chain, &[]).record;
+    assert!(record.yields == [0; 1024] && record.reached.into_iter().eq((0..512).rev().chain(0..512)));
+    let record = compare_quick(&chain, &names(&[0])).record;
+    assert!(record.reached.into_iter().eq([65535].into_iter().chain(0..1023)));
     let mut random = Random(1618033988);
     for pool in [Pool::random(&mut random, 40, 90), Pool::random(&mut random, 1024, 3000)] {
         let list: Vec<u16> = (0..4096).map(|i| if i < 4056 { 2000 + i } else { i - 4056 }).collect();
         compare_quick(&pool, &names(&list));
     }
     let empty = Pool::of_edges(0, [], vec![]);
-    compare(&empty, &[]);
+    assert_eq!(compare(&empty, &[]).record.reached, []);
     compare(&empty, &names(&[0, 5, 65535]));
     compare(&empty, &names(&[0; 4096]));
     Call::new(&empty, &names(&[0; 4097])).refused(11, 0);

@@ -184,14 +184,15 @@ impl Handed {
         links.resize(self.places, 7);
         let [kinds, firsts, seconds] = [(2, 0), (0, 1), (1, 2)].map(|(number, list)| vec![number; self.events[list]]);
         let (mut bytes, mut yields) = (vec![0; self.room], vec![0; self.room]);
-        let ([mut a, mut b, mut c, mut d], [mut e, mut f, mut g]) = ([0; 4].map(|_| vec![0; self.room]), self.events.map(|m| vec![0; m]));
+        let [mut a, mut b, mut c, mut d, mut e] = [0; 5].map(|_| vec![0; self.room]);
+        let [mut f, mut g, mut h] = self.events.map(|m| vec![0; m]);
         unsafe {
             exports::planner_run(
                 starts.as_mut_ptr(), starts.len(), links.as_mut_ptr(), links.len(), given.as_ptr(), given.len(),
                 kinds.as_ptr(), kinds.len(), firsts.as_ptr(), firsts.len(), seconds.as_ptr(), seconds.len(),
                 bytes.as_mut_ptr(), bytes.len(), a.as_mut_ptr(), a.len(), b.as_mut_ptr(), b.len(),
-                c.as_mut_ptr(), c.len(), yields.as_mut_ptr(), yields.len(), d.as_mut_ptr(), d.len(),
-                e.as_mut_ptr(), e.len(), f.as_mut_ptr(), f.len(), g.as_mut_ptr(), g.len(),
+                c.as_mut_ptr(), c.len(), yields.as_mut_ptr(), yields.len(), d.as_mut_ptr(), d.len(), e.as_mut_ptr(), e.len(),
+                f.as_mut_ptr(), f.len(), g.as_mut_ptr(), g.len(), h.as_mut_ptr(), h.len(),
             )
         }
     }

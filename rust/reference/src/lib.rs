@@ -318,6 +318,14 @@ fn net_yield(graph: &Graph, at: &Anchoring, bare: &[u16], x: usize) -> i16 {
     count(&followers(at, &at.with(graph, x))) as i16 - climb
 }
 
+/// How many vertices upstair walks from x reach; 65,535 if it is anchored.
+fn reached(graph: &Graph, at: &Anchoring, x: usize) -> u16 {
+    if at.anchored[x] {
+        return ANCHORED;
+    }
+    count(&candidates(graph, at, x)) as u16
+}
+
 /// The vertex a round anchors, if any of those it may choose is left: of greatest net yield, the lowest among equals.
 fn choice(state: &State, may_choose: &dyn Fn(usize) -> bool) -> Option<usize> {
     let free = || (0..state.graph.size()).filter(|&v| !state.at.anchored[v] && may_choose(v));

@@ -1,7 +1,7 @@
-//! Sessions of events: "A session" of document 01, as cards 4, 6 and 7 of document 02 have it. After each event everything is worked out
-//! afresh for the table as it then stands.
+//! Sessions of events: "A session" of document 01, as cards 4, 6, 7 and 10 of document 02 have it. After each event everything is worked
+//! out afresh for the table as it then stands.
 
-use crate::{bare_levels, check_table, count, followers, net_yield, size, Anchoring, Graph, Refusal, Sheet, Size};
+use crate::{bare_levels, check_table, count, followers, net_yield, reached, size, Anchoring, Graph, Refusal, Sheet, Size};
 use std::cell::OnceCell;
 use std::collections::{BTreeSet, HashMap};
 
@@ -43,7 +43,7 @@ pub struct Call<'a> {
     pub kinds: &'a [u16],
     pub firsts: &'a [u16],
     pub seconds: &'a [u16],
-    pub for_vertices: [usize; 6],
+    pub for_vertices: [usize; 7],
     pub for_events: [usize; 3],
 }
 
@@ -71,7 +71,7 @@ pub fn admit_session(call: &Call) -> Result<(Graph, Vec<bool>, Vec<Event>), Refu
     if kinds.len() > 4096 {
         return Err((11, 0));
     }
-    if for_vertices != [n; 6] || for_events != [kinds.len(); 3] {
+    if for_vertices != [n; 7] || for_events != [kinds.len(); 3] {
         return Err((12, 0));
     }
     let event = |i: usize| Event { kind: kinds[i], first: firsts[i], second: seconds[i] };
@@ -82,18 +82,21 @@ fn component_of(s: &Sheet, v: usize) -> BTreeSet<usize> {
     (0..s.component.len()).filter(|&w| s.component[w] == s.component[v]).collect()
 }
 
-/// The table as it stands, the anchors with their sheet, the bare levels, and the net yields, worked out when they are asked for.
+/// The table as it stands, the anchors with their sheet, the bare levels, how many the search from each vertex reaches, and the net yields,
+/// worked out when they are asked for.
 pub struct State {
     pub graph: Graph,
     pub at: Anchoring,
     pub bare: Vec<u16>,
+    reached: Vec<u16>,
     yields: OnceCell<Vec<i16>>,
 }
 
 impl State {
     pub fn new(graph: Graph, anchored: &[bool]) -> State {
         let (at, bare) = (Anchoring::new(&graph, anchored), bare_levels(&graph));
-        State { graph, at, bare, yields: OnceCell::new() }
+        let reached = (0..graph.size()).map(|x| reached(&graph, &at, x)).collect();
+        State { graph, at, bare, reached, yields: OnceCell::new() }
     }
 
     pub fn yields(&self) -> &[i16] {
@@ -204,6 +207,7 @@ pub struct Record {
     pub anchored: Vec<u8>,
     pub sheet: Sheet,
     pub yields: Vec<i16>,
+    pub reached: Vec<u16>,
     pub stamps: Vec<u16>,
     pub status: Vec<u16>,
     pub followers: Vec<u16>,
@@ -308,6 +312,7 @@ impl Plain {
             anchored: state.at.anchored.iter().map(|&b| b as u8).collect(),
             sheet: state.at.sheet.clone(),
             yields: state.yields().to_vec(),
+            reached: state.reached.clone(),
             stamps: session.stamps.clone(),
             status: column(0),
             followers: column(1),

@@ -75,7 +75,7 @@ fn full_table() {
 fn order_of_refusals() {
     let (long, short) = (vec![0u16; 4097], vec![0u16; 4096]);
     let refusal = |starts: &[u16], links: &[u16], given: &[u8], [kinds, firsts]: [&[u16]; 2], n: usize, m: usize| {
-        let call = Call { starts, links, given, kinds, firsts, seconds: firsts, for_vertices: [n; 6], for_events: [m; 3] };
+        let call = Call { starts, links, given, kinds, firsts, seconds: firsts, for_vertices: [n; 7], for_events: [m; 3] };
         admit_session(&call).err()
     };
     let links = |used: &[u16], places: usize| [used, &vec![7; places - used.len()]].concat();

@@ -1,4 +1,4 @@
-//! Net yields, rows redone and the choices of rounds, where they are told by hand.
+//! Net yields, reached counts, rows redone and the choices of rounds, where they are told by hand.
 
 use pools::Pool;
 use reference::{Anchoring, Event, Record};
@@ -30,6 +30,19 @@ fn sessions() {
     // 0 looks into no component: its row is redone because its level changed
     let record = session(&Pool::of_edges(3, [(0, 1), (0, 2)], vec![0, 1, 0]), &[2]);
     assert_eq!((record.recomputed, record.stamps, record.yields), (vec![1], vec![1, 0, 1], vec![-1, -32768, -32768]));
+}
+
+/// From an end of the chain its neighbor is reached and not lifted; with an end anchored all who are reached are lifted.
+#[test]
+fn reached() {
+    let chain = |anchored: [u8; 4]| Pool::of_edges(4, [(0, 1), (1, 2), (2, 3)], anchored.to_vec());
+    assert_eq!(session(&chain([0; 4]), &[]).reached, [1, 0, 0, 1]);
+    assert_eq!(session(&chain([0; 4]), &[0, 9]).reached, [65535, 0, 1, 2]);
+    assert_eq!(session(&chain([1, 0, 0, 0]), &[3]).reached, [65535, 0, 0, 65535]);
+    // 3 has two anchored neighbors, 4 is in a triangle; from 2 between them both are reached, and 3 is lifted
+    let edges = [(0, 3), (1, 3), (2, 3), (2, 4), (4, 5), (4, 6), (5, 6)];
+    let record = session(&Pool::of_edges(7, edges, vec![1, 1, 0, 0, 0, 0, 0]), &[]);
+    assert_eq!((record.reached, record.yields), (vec![65535, 65535, 2, 0, 0, 1, 1], vec![-32768, -32768, 0, -1, 0, 0, 0]));
 }
 
 /// It takes 4 vertices for the choice by net yield to differ from the one by followers, and 18 of their 1,024 pools. The figures were

@@ -15,7 +15,7 @@ use Rattle.step.proofs.accept.Tie as tie
 
 -- the fresh columns, the stale rows marked and the entry, seen from the end
 abbrev marked : tie.After-redo → tie.After-mark-stale
-marked c = c .before .before .before .before .before .before .before
+marked c = c .before .before .before .before .before .before .before .before .before
 
 abbrev refreshed : tie.After-mark-stale → tie.After-refresh
 refreshed c = c .before .before .before
@@ -44,16 +44,16 @@ mark-stale-requires : tie.Need-mark-stale-requires
 mark-stale-requires c κs = (start (c .before .before) .pre .0 .admitted .table, (search needs, search needs))
 
 mul-lifted : tie.Need-mul-lifted
-mul-lifted c = omega (arith, inside (c .before .before .before .before .before .before .before .before .before .before .before))
+mul-lifted c = omega (arith, inside (c .before .before .before .before .before .before .before .before .before .before .before .before))
 
 array-read-lifted : tie.Need-array-read-lifted
-array-read-lifted c = inside (c .before .before .before .before .before .before .before .before .before .before .before)
+array-read-lifted c = inside (c .before .before .before .before .before .before .before .before .before .before .before .before)
 
 redo-requires : tie.Need-redo-requires
 redo-requires c κs =
-    let refreshed = refreshed (c .before .before .before .before .before .before) in
+    let refreshed = refreshed (c .before .before .before .before .before .before .before .before) in
     let right = start refreshed .pre .0 in
-    (admits (start refreshed), (refreshed .refresh .ensures, (right .counts-long, right .stamps-long)))
+    (admits (start refreshed), (refreshed .refresh .ensures, (right .counts-long, (right .reaches-long, right .stamps-long))))
 
 mul-followers : tie.Need-mul-followers
 mul-followers c = omega (arith, inside (start (refreshed (marked c))))
@@ -61,22 +61,32 @@ mul-followers c = omega (arith, inside (start (refreshed (marked c))))
 array-write-followers : tie.Need-array-write-followers
 array-write-followers c = inside (start (refreshed (marked c)))
 
+mul-reached : tie.Need-mul-reached
+mul-reached c = omega (arith, inside (start (refreshed (marked c))))
+
+array-write-reached : tie.Need-array-write-reached
+array-write-reached c = inside (start (refreshed (marked c)))
+
 mul-stamp : tie.Need-mul-stamp
 mul-stamp c = omega (arith, inside (start (refreshed (marked c))))
 
 array-write-stamp : tie.Need-array-write-stamp
 array-write-stamp c = inside (start (refreshed (marked c)))
 
-cast-t24 : tie.Need-cast-t24
-cast-t24 c = omega (arith, start (refreshed (marked c)) .pre .0 .admitted .table .small, redone-le (c .redo .ensures))
+cast-accepted : tie.Need-cast-accepted
+cast-accepted c = omega (arith, start (refreshed (marked c)) .pre .0 .admitted .table .small, redone-le (c .redo .ensures))
+
+accepted-requires : tie.Need-accepted-requires
+accepted-requires c κs = search needs
 
 returns : tie.Need-returns
 returns c =
-    let refreshed = refreshed (marked c) in
+    let redone = c .before in
+    let refreshed = refreshed (marked redone) in
     let start = start refreshed in
     let columns = refreshed .refresh .ensures in
-    let found = marked c .mark-stale .ensures _ _ _ _ (anchor-known (start .pre .0 .admitted .table) (start .pre .0 .columns) columns) in
-    turned (start .pre .0) (start .args .x) (start .pre .1 .0) (free start) (redone-named (c .redo .ensures) (λ v h. sym (found v h))) (admits start) columns
+    let found = marked redone .mark-stale .ensures _ _ _ _ (anchor-known (start .pre .0 .admitted .table) (start .pre .0 .columns) columns) in
+    turned (start .pre .0) (start .args .x) (start .pre .1 .0) (free start) (redone-named (redone .redo .ensures) (λ v h. sym (found v h))) (admits start) columns (c .accepted .ensures)
 
 pub accept-spec : {M : Type 1} → statement M
 accept-spec =
@@ -90,7 +100,10 @@ accept-spec =
     redo-requires
     mul-followers
     array-write-followers
+    mul-reached
+    array-write-reached
     mul-stamp
     array-write-stamp
-    cast-t24
+    cast-accepted
+    accepted-requires
     returns)

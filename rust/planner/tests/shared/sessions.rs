@@ -14,10 +14,11 @@ fn room(n: usize, m: usize) -> Record {
         components: held(n, 3),
         // from -21,136 up, and no net yield is so low but -32,768
         yields: held(n, 4).into_iter().map(|number| number as i16).collect(),
-        stamps: held(n, 5),
-        status: held(m, 6),
-        lifted: held(m, 7),
-        redone: held(m, 8),
+        reached: held(n, 5),
+        stamps: held(n, 6),
+        status: held(m, 7),
+        lifted: held(m, 8),
+        redone: held(m, 9),
     }
 }
 
@@ -50,7 +51,8 @@ impl Call {
     /// What the naive tests of the call answer: the size of its table, or why it is refused.
     pub fn admitted(&self) -> Result<Size, Refusal> {
         let Call { starts, links, given, kinds, firsts, seconds, record: r } = self;
-        let for_vertices = [r.anchored.len(), r.levels.len(), r.layers.len(), r.components.len(), r.yields.len(), r.stamps.len()];
+        let for_vertices =
+            [r.anchored.len(), r.levels.len(), r.layers.len(), r.components.len(), r.yields.len(), r.reached.len(), r.stamps.len()];
         let for_events = [r.status.len(), r.lifted.len(), r.redone.len()];
         let call = reference::Call { starts, links, given, kinds, firsts, seconds, for_vertices, for_events };
         reference::admit_session(&call).map(|(graph, ..)| size(reference::size(&graph))).map_err(refusal)
@@ -75,7 +77,7 @@ impl Call {
     }
 }
 
-/// The record with each of its nine slices in turn one too short and one too long.
+/// The record with each of its ten slices in turn one too short and one too long.
 pub fn wrong_records(record: &Record) -> Vec<Record> {
     let with = |change: &dyn Fn(&mut Record)| {
         let mut wrong = record.clone();
@@ -89,6 +91,7 @@ pub fn wrong_records(record: &Record) -> Vec<Record> {
             with(&|record| record.layers.resize(length, 7)),
             with(&|record| record.components.resize(length, 7)),
             with(&|record| record.yields.resize(length, 7)),
+            with(&|record| record.reached.resize(length, 7)),
             with(&|record| record.stamps.resize(length, 7)),
         ]
     });
@@ -120,6 +123,7 @@ impl From<reference::Record> for Left {
             layers: r.sheet.layer,
             components: r.sheet.component,
             yields: r.yields,
+            reached: r.reached,
             stamps: r.stamps,
             status: r.status,
             lifted: r.followers,
@@ -215,8 +219,26 @@ pub fn compare_damaged(pool: &Pool, events: &[Event]) -> Option<u64> {
     Some(number)
 }
 
+/// What a vertex not anchored has climbed.
+fn climb(record: &Record, bare: &[u16], v: usize) -> i64 {
+    record.levels[v] as i64 - bare[v] as i64
+}
+
+/// The vertices not anchored.
+pub fn free(record: &Record) -> impl Iterator<Item = usize> + '_ {
+    (0..record.anchored.len()).filter(|&v| record.anchored[v] == 0)
+}
+
 /// The sum of the climbs of all vertices not anchored.
 pub fn climbed(record: &Record, bare: &[u16]) -> i64 {
-    let free = (0..bare.len()).filter(|&v| record.anchored[v] == 0);
-    free.map(|v| record.levels[v] as i64 - bare[v] as i64).sum()
+    free(record).map(|v| climb(record, bare, v)).sum()
+}
+
+/// Counts the vertices not anchored from which the search reaches nobody, followers alone, and others too.
+pub fn count_widths(record: &Record, bare: &[u16], widths: &mut [usize; 3]) {
+    for v in free(record) {
+        let (reached, followers) = (record.reached[v] as i64, record.yields[v] as i64 + climb(record, bare, v));
+        assert!(0 <= followers && followers <= reached, "{record:?} {v}");
+        widths[(reached > 0) as usize + (reached > followers) as usize] += 1;
+    }
 }

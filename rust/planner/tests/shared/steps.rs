@@ -1,7 +1,7 @@
 //! A session from event to event, by the planner's own answers alone: each record is the fresh one for the table as it stands, and what
 //! lies between two of them is what documents 01 and 02 say of the event.
 
-use super::sessions::{accepted, climbed, Left};
+use super::sessions::{accepted, climbed, count_widths, free, Left};
 use super::{input, table_size};
 use planner::Record;
 use pools::Pool;
@@ -20,6 +20,12 @@ pub struct Met {
     pub bare: [usize; 3],
     /// Calls whose events have changed the number of edges, and those that have changed the greatest degree.
     pub resized: [usize; 2],
+    /// Vertices not anchored, in all records, from which the search reaches nobody, followers alone, and others too.
+    pub widths: [usize; 3],
+    /// Reached counts of vertices not anchored that an event has lowered, left and raised; and of those changed how many stand beside a net
+    /// yield that stayed.
+    pub reached: [usize; 3],
+    pub reached_alone: usize,
 }
 
 /// The record, stamps apart, is the fresh one of the other operations, which accept the table. The bare levels.
@@ -31,15 +37,15 @@ fn is_fresh(left: &Left) -> Vec<u16> {
     assert_eq!(planner::work(input(&pool), &mut levels, &mut layers, &mut components), size);
     assert_eq!((&levels, &layers, &components), (&record.levels, &record.layers, &record.components), "{pool:?}");
     for x in 0..pool.size() {
-        let net = match record.anchored[x] {
-            1 => -32768,
+        let row = match record.anchored[x] {
+            1 => (-32768, 65535),
             _ => {
                 let found = planner::followers(input(&pool), &levels, &layers, x, &mut marks).unwrap();
                 assert_eq!(Ok(found.size), size);
-                found.lifted as i16 - (levels[x] as i16 - bare[x] as i16)
+                (found.lifted as i16 - (levels[x] as i16 - bare[x] as i16), found.reached as u16)
             }
         };
-        assert_eq!(record.yields[x], net, "{pool:?} {x}");
+        assert_eq!((record.yields[x], record.reached[x]), row, "{pool:?} {x}");
     }
     bare
 }
@@ -66,16 +72,27 @@ impl Met {
         }
     }
 
-    /// Whoever is not stamped by the event at this position keeps yield and stamp; all others, a newly anchored one apart, are counted.
+    /// Whoever is not stamped by the event at this position keeps yield, reached count and stamp; all others, a newly anchored one apart,
+    /// are counted.
     fn stamps(before: &Record, after: &Record, named: Option<usize>, position: usize) {
         let is_stamped = |v: usize| after.stamps[v] as usize == position;
+        let row = |record: &Record, v: usize| (record.yields[v], record.reached[v], record.stamps[v]);
         let kept = (0..after.stamps.len()).filter(|&v| !is_stamped(v));
         for v in kept {
-            assert_eq!((before.yields[v], before.stamps[v]), (after.yields[v], after.stamps[v]));
+            assert_eq!(row(before, v), row(after, v));
         }
         let redone = (0..after.stamps.len()).filter(|&v| is_stamped(v) && Some(v) != named);
         assert_eq!(redone.clone().count(), after.redone[position - 1] as usize);
         assert!(redone.into_iter().all(|v| after.anchored[v] == 0));
+    }
+
+    /// How the reached counts of vertices not anchored moved.
+    fn reached_moves(&mut self, before: &Record, after: &Record) {
+        for v in free(after) {
+            let moved = after.reached[v].cmp(&before.reached[v]);
+            self.reached[(moved as i8 + 1) as usize] += 1;
+            self.reached_alone += (moved.is_ne() && after.yields[v] == before.yields[v]) as usize;
+        }
     }
 
     fn anchored(&mut self, before: &Left, after: &Left, x: usize) {
@@ -106,8 +123,9 @@ impl Met {
     pub fn along(&mut self, pool: &Pool, events: &[Event]) -> Vec<Left> {
         let upto: Vec<Left> = (0..=events.len()).map(|i| accepted(pool, &events[..i])).collect();
         let bare: Vec<Vec<u16>> = upto.iter().map(is_fresh).collect();
-        for left in &upto {
+        for (left, bare) in upto.iter().zip(&bare) {
             assert_eq!(Ok(left.size), table_size(pool));
+            count_widths(&left.record, bare, &mut self.widths);
             self.resized.iter_mut().zip(left.resized()).for_each(|(count, resized)| *count += resized as usize);
         }
         // what is climbed in all since the last change of an edge
@@ -126,6 +144,7 @@ impl Met {
                 continue;
             }
             Met::stamps(&before.record, &after.record, named, i + 1);
+            self.reached_moves(&before.record, &after.record);
             match named {
                 Some(x) => {
                     self.anchored(before, after, x);

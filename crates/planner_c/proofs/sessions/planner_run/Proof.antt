@@ -8,7 +8,7 @@ use Rattle.planner_c.proofs.sessions.planner_run.Tie as tie
 
 -- the call, seen from the end
 abbrev called : tie.After-of-ran → tie.After-run
-called c = c .before .before .before .before .before .before .before .before .before .before .before .before .before .before .before .before .before .before .before .before .before .before
+called c = c .before .before .before .before .before .before .before .before .before .before .before .before .before .before .before .before .before .before .before .before .before .before .before .before
 
 run-requires : tie.Need-run-requires
 run-requires c κs = search needs
@@ -49,6 +49,9 @@ same-length-10 c = called c .run .kept .1 .1 .1 .1 .1 .1 .1 .1 .1 .1 .1 .1 .1 .0
 same-length-11 : tie.Need-same-length-11
 same-length-11 c = called c .run .kept .1 .1 .1 .1 .1 .1 .1 .1 .1 .1 .1 .1 .1 .1 .0
 
+same-length-12 : tie.Need-same-length-12
+same-length-12 c = called c .run .kept .1 .1 .1 .1 .1 .1 .1 .1 .1 .1 .1 .1 .1 .1 .1 .0
+
 returns : tie.Need-returns
 returns c =
     let run = called c .run .ensures in
@@ -72,4 +75,5 @@ planner-run-spec =
     same-length-9
     same-length-10
     same-length-11
+    same-length-12
     returns)

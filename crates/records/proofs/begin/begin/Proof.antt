@@ -29,32 +29,43 @@ refresh-requires c κs = padded (c .before)
 fill-bare-requires : tie.Need-fill-bare-requires
 fill-bare-requires c κs = start (c .before .before .before .before .before) .pre .0 .table
 
+-- the columns and the bare levels, seen from the counted rows
+abbrev bared : tie.After-reached → tie.After-fill-bare
+bared c = c .before .before .before .before .before
+
+abbrev refreshed : tie.After-fill-bare → tie.After-refresh
+refreshed c = c .before .before .before .before
+
 count-rows-requires : tie.Need-count-rows-requires
 count-rows-requires c κs =
-    let refreshed = c .before .before .before .before .before .before .before .before in
-    let columns = refreshed .refresh .ensures in
-    (padded (refreshed .before .before), (columns .levels, (columns .layers, refl)))
+    let worked = refreshed (bared c) in
+    let columns = worked .refresh .ensures in
+    (padded (worked .before .before), (columns .levels, (columns .layers, (refl, refl))))
 
 returns : tie.Need-returns
 returns c =
-    let bared = c .before .before .before .before .before in
-    let refreshed = bared .before .before .before .before in
-    let filled = refreshed .before .before in
+    let bare = bared (c .before) in
+    let worked = refreshed bare in
+    let filled = worked .before .before in
     let args = start filled .args in
     let small = start filled .pre .0 .table .small in
     let counted = c .count-rows .ensures in
-    let long = length-replicate {A = ℕ} 1024 0 in
-    record {
-      right = record {
-        admitted = padded filled;
-        columns = refreshed .refresh .ensures;
-        bares = bared .fill-bare .ensures;
-        counts = counted .1;
-        counts-long = omega (arith, small, counted .0);
-        stamps-long = omega arith;
-      };
-      stands = stands-start (args .starts .now) (args .links .now) (args .given .now) [] _ (filled .pad .ensures .same) (λ v h. getD-replicate {A = ℕ} 1024 v 0 0 (omega arith));
-    }
+    let long = length-replicate {A = ℕ} 1024 0 in (
+      record {
+        right = record {
+          admitted = padded filled;
+          columns = worked .refresh .ensures;
+          bares = bare .fill-bare .ensures;
+          counts = counted .0 .1;
+          counts-long = omega (arith, small, counted .0 .0);
+          reaches = counted .1 .1;
+          reaches-long = omega (arith, small, counted .1 .0);
+          stamps-long = omega arith;
+        };
+        stands = stands-start (args .starts .now) (args .links .now) (args .given .now) [] _ (filled .pad .ensures .same) (λ v h. getD-replicate {A = ℕ} 1024 v 0 0 (omega arith));
+      },
+      refl,
+    )
 
 pub begin-spec : {M : Type 1} → statement M
 begin-spec = tie.close (tie.spec pad-requires refresh-requires fill-bare-requires count-rows-requires returns)

@@ -37,7 +37,7 @@ begin-turns-requires : tie.Need-begin-turns-requires Inv-loop μ-loop
 begin-turns-requires c κs = c .before .before .before .before .before .before .before .pre .1 .1 .1 .1 .0
 
 loop-holds : tie.Need-loop-holds Inv-loop μ-loop
-loop-holds c = (omega arith, playing-none (c .before .begin .ensures) (c .begin-turns .ensures))
+loop-holds c = (omega arith, playing-none (c .before .begin .ensures .0) (c .begin-turns .ensures))
 
 add-play-turn : tie.Need-add-play-turn Inv-loop μ-loop
 add-play-turn c = search needs

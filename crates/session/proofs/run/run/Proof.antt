@@ -15,7 +15,7 @@ use Rattle.session.proofs.run.run.Tie as tie
 
 -- the entry, seen from the answer; the events and the slices lent
 abbrev start : tie.After-enum-told → tie.Start
-start c = c .before .before .before .before .before .before .before .before .before .before .before .before .before .before .before .before .before .before .before .before .before .before
+start c = c .before .before .before .before .before .before .before .before .before .before .before .before .before .before .before .before .before .before .before .before .before .before .before
 
 abbrev events : tie.Start → Lists
 events c = let args = c .args in lists (args .kinds .now) (args .firsts .now) (args .seconds .now)
@@ -23,15 +23,15 @@ events c = let args = c .args in lists (args .kinds .now) (args .firsts .now) (a
 abbrev lent : tie.Start → Slices
 lent c =
     let args = c .args in
-    slices (args .starts .now) (args .links .now) (args .anchored .now) (args .levels .now) (args .layers .now) (args .components .now) (args .yields .now) (args .stamps .now) (args .status .now) (args .lifted .now) (args .redone .now)
+    slices (args .starts .now) (args .links .now) (args .anchored .now) (args .levels .now) (args .layers .now) (args .components .now) (args .yields .now) (args .reached .now) (args .stamps .now) (args .status .now) (args .lifted .now) (args .redone .now)
 
 -- the answer is that nothing is refused
 told : (c : tie.After-enum-told) → runOf (start c .args .given .now) (events (start c)) (lent (start c)) ≡ Passed
 told c = sym (c .before .before .admit .ensures) ∙ c .enum-told .given .1
 
 -- the call, seen from the end
-abbrev called : tie.After-slice-known20 → tie.After-write
-called c = c .before .before .before .before .before .before .before .before .before .before .before .before .before .before .before .before .before .before .before .before .before
+abbrev called : tie.After-slice-known22 → tie.After-write
+called c = c .before .before .before .before .before .before .before .before .before .before .before .before .before .before .before .before .before .before .before .before .before .before .before
 
 slice-aggregate-admit : tie.Need-slice-aggregate-admit
 slice-aggregate-admit c = search needs
@@ -55,7 +55,7 @@ measure-requires : tie.Need-measure-requires
 measure-requires c κs = let told-at = c .before .before in lent-sound _ _ (run-sound _ _ _ (events (start told-at)) _ (told told-at) .0 .table)
 
 write-requires : tie.Need-write-requires
-write-requires c κs = let told-at = c .before .before .before .before .before .before .before .before .before .before .before .before .before .before in run-sound _ _ _ (events (start told-at)) _ (told told-at)
+write-requires c κs = let told-at = c .before .before .before .before .before .before .before .before .before .before .before .before .before .before .before in run-sound _ _ _ (events (start told-at)) _ (told told-at)
 
 same-length : tie.Need-same-length
 same-length c = search needs
@@ -101,9 +101,12 @@ same-length-12 c = called c .write .kept .1 .1 .1 .1 .1 .1 .1 .1 .1 .1 .1 .1 .1 
 same-length-13 : tie.Need-same-length-13
 same-length-13 c = called c .write .kept .1 .1 .1 .1 .1 .1 .1 .1 .1 .1 .1 .1 .1 .1 .0
 
+same-length-14 : tie.Need-same-length-14
+same-length-14 c = called c .write .kept .1 .1 .1 .1 .1 .1 .1 .1 .1 .1 .1 .1 .1 .1 .1 .0
+
 returns-2 : tie.Need-returns-2
 returns-2 c =
-    let measured = called c .before .before .before .before .before .before .before .before .before .before .before .before in
+    let measured = called c .before .before .before .before .before .before .before .before .before .before .before .before .before in
     let told-at = measured .before .before .before in
     let passed = told told-at in
     ((ap Served (measured .measure .ensures) ∙ sym (cleared _ _ passed), called c .write .ensures ∙ sym (cleared _ _ passed)), λ size e. session-claim _ _ _ _ (lent (start told-at)) refl refl passed)
@@ -134,4 +137,5 @@ run-spec =
     same-length-11
     same-length-12
     same-length-13
+    same-length-14
     returns-2)

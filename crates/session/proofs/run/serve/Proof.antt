@@ -40,7 +40,7 @@ begin-requires c κs =
     (runs-admitted runs (zeros .zero-behind .ensures), runs .long)
 
 loop-holds : tie.Need-loop-holds Inv-loop μ-loop
-loop-holds c = (omega arith, serving-none (tabled-itself (c .before .before .before .before .before .zero-behind .ensures)) (c .begin .ensures))
+loop-holds c = (omega arith, serving-none (tabled-itself (c .before .before .before .before .before .zero-behind .ensures)) (c .begin .ensures .0) (c .begin .ensures .1))
 
 -- an event's place is a place of every list, and small
 place : (c : tie.In-loop Inv-loop μ-loop) → let pre = start (zeroed (c .before)) .pre in let args = start (zeroed (c .before)) .args in
