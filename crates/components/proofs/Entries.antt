@@ -10,7 +10,7 @@ use lib.Seq.{take-suc, take-append-seam, length-take-le, getD-set-same, getD-set
 use lib.Dec.{T, eqb, not-T, eqb→eq, eqb-refl}
 use Rattle.finite.specs.Count.{count, below}
 use Rattle.finite.proofs.Tests.{and-i, and-r, split, same, true-of, eqb-of, neqb}
-use Rattle.finite.proofs.Count.{bit-yes, bit-no, in-at, in-below, length-below, map-cong, store-more, count-length, count-below-more, count-cong}
+use Rattle.finite.proofs.Count.{bit-yes, bit-no, in-at, in-below, map-cong, store-more, count-below-more, count-below-le, count-cong}
 use Rattle.finite.proofs.Falling.{in-falling, falling-cong}
 use Rattle.anchored.specs.Graph.{Graph, Simple}
 use Rattle.anchored.specs.Core.{level}
@@ -34,7 +34,7 @@ module _ (numbers sizes : List ℕ) (n v : ℕ) (holds : Holds sizes n (members 
   -- no component has more members than vertices were looked at
   pub members-few : (c : ℕ) → c < n → getD sizes c 0 ≤ v
   unfolding has-number
-  members-few c b = omega (arith, holds c b, count-length (has-number c) (below v), length-below v)
+  members-few c b = omega (arith, holds c b, count-below-le (has-number c) v)
 
   -- v is one member more of its component
   pub members-more : number < n → number < length sizes → Holds (set sizes number (getD sizes number 0 + 1)) n (members numbers (v + 1))
@@ -129,7 +129,7 @@ module _ (G : Graph) (L : Simple G) (A : ℕ → Bool) (small : G .size ≤ 1024
         record {
           low = λ v b h. subst (λ z. z < G .size) (sym (levels-hold v b)) (level-lt G L A v b (free v (subst (λ z. z < G .size) (numbers-hold v b) h)));
           counted = counted;
-          few = omega (arith, count-length (heads G A) (below (G .size)), length-below (G .size));
+          few = omega (arith, count-below-le (heads G A) (G .size));
           numbers-are = is-ranked;
           levels-are = ap (map (λ v. getD levels v 0)) is-ranked ∙ map-cong _ _ (ranked G A) (λ v i. levels-hold v (ranked-in G L A v i .0));
           sizes-are = ap (map (λ v. getD sizes v 0)) is-ranked ∙ map-cong _ _ (ranked G A) (λ v i.

@@ -1,11 +1,11 @@
 -- An event on a table and a record, over plain values: an edge that is added or dropped, a vertex that is anchored, and a refusal.
 -- Assumes nothing.
 use mathlib.Core.Path.{_≡_, refl, sym, ap, _∙_, subst}
-use mathlib.Core.Bool.{Bool, true, false, not, cond, _&&_}
+use mathlib.Core.Bool.{Bool, true, false, not, cond}
 use mathlib.Core.List.{List}
 use Prim.Native.Nat.{ℕ, _≤_, _<_}
 use native.Mathlib.Omega.{arith}
-use lib.ListN.{length, getD}
+use lib.ListN.{length}
 use lib.Dec.{T, eqb, eqb→eq}
 use borrow.Author.Tests.{lt-ltb, ne-eqb}
 use Rattle.finite.specs.Count.{count, below}
@@ -29,6 +29,7 @@ use Rattle.records.specs.Record.{reachedIf, rowReached, Right, plainOf, Stands}
 use Rattle.records.specs.declared.Record.{Record}
 use Rattle.step.specs.Rows.{rowsOf, Renewed, Redone}
 use Rattle.step.specs.Turn.{rowAs}
+use Rattle.step.proofs.Steps.{renewed-all}
 use Rattle.step.specs.Turn.{Turned as Stepping}
 use Rattle.step.specs.declared.Stepped.{Stepped}
 use Rattle.events.specs.Turn.{poolOf, refusing, Turned}
@@ -111,8 +112,7 @@ module _ {s₀ l₀ s l : List ℕ} {kept : Record} (right : Right s₀ l₀ kep
     column-after number old new renews held same v h =
         let b : v < vertices s₀ = omega (arith, size) in
         let again = edgeStale P e v in
-        renews .places v
-        ∙ ap (λ q. cond (q && again) (number (graphOf s l) v) (getD old v 0)) (lt-ltb v (vertices s) h)
+        renewed-all renews v h
         ∙ ap (cond again (number (graphOf s l) v)) (held v b)
         ∙ subst (λ H. cond again (number H v) (rowNumber 65535 A (number G) v) ≡ rowNumber 65535 A (number H) v) (sym (table .graph)) (renewed-edge G L e ok A 65535 number v (same v b))
 
@@ -142,7 +142,7 @@ module _ {s₀ l₀ s l : List ℕ} {kept : Record} (right : Right s₀ l₀ kep
     stands-after : Stands (vertices s₀) next (eventTurn position e P .plain)
     stands-after = subst (λ R. Stands (vertices s₀) next (R .plain)) (sym (turn-edge P e position z t)) record {
       anchors = ap anchoredBy (W .bytes);
-      stamps = λ v h. rows .stamps .places v ∙ ap (λ q. cond (q && edgeStale P e v) position (getD (kept .stamp) v 0)) (lt-ltb v (vertices s) (omega (arith, size)));
+      stamps = λ v h. renewed-all (rows .stamps) v (omega (arith, size));
     }
 
     row-after : rowAs (left .row) ≡ eventRow P e

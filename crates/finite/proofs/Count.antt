@@ -232,6 +232,9 @@ module _ (p : ℕ → Bool) where
   unfolding count below tabulate
   count-below-more i = rw (add-one, tabulate, count-append) (omega arith)
 
+  pub count-below-le : (i : ℕ) → count p (below i) ≤ i
+  count-below-le i = omega (arith, count-length (below i), length-below i)
+
   -- one that passes: the count is not 0
   pub count-some : (l : List ℕ) (w : ℕ) → In w l → T (p w) → 0 < count p l
   unfolding count
@@ -331,8 +334,7 @@ module _ (l : List ℕ) (n : ℕ) (d : Distinct l) (f : (w : ℕ) → In w l →
   distinct-length =
       let a = count-all (λ w. true) l (λ w i. tt) in
       let b = count-inject (λ w. true) (λ w. true) l (below n) d (λ w i t. (tt, in-below n w .1 (f w i))) in
-      let c = count-length (λ w. true) (below n) in
-      omega (arith, length-below n)
+      omega (arith, count-below-le (λ w. true) n)
 
   -- and less than n of them if one below n is left out
   pub distinct-other : (v : ℕ) → v < n → (In v l → ⊥) → length l < n
@@ -340,8 +342,7 @@ module _ (l : List ℕ) (n : ℕ) (d : Distinct l) (f : (w : ℕ) → In w l →
       let a = count-all (λ w. true) l (λ w i. tt) in
       let c = count-inject (λ w. true) (λ w. not (eqb w v)) l (below n) d (λ w i t. (not-T (eqb w v) (λ e. g (subst (λ z. In z l) (eqb→eq w v e) i)), in-below n w .1 (f w i))) in
       let s = count-strict (λ w. not (eqb w v)) (λ w. true) (below n) (λ w i t. tt) v (in-below n v .1 b) tt (not-T (not (eqb v v)) (λ t. T-not (eqb v v) t (eqb-refl v))) in
-      let e = count-length (λ w. true) (below n) in
-      omega (arith, length-below n)
+      omega (arith, count-below-le (λ w. true) n)
 
 -- a list without repeats of just the numbers below n that pass is as long as their count
 pub count-listed : (p : ℕ → Bool) (n : ℕ) (l : List ℕ) → Distinct l → ((w : ℕ) → In w l → (w < n) × T (p w)) → ((w : ℕ) → w < n → T (p w) → In w l)

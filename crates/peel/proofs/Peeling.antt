@@ -12,7 +12,7 @@ use Rattle.finite.specs.Count.{bit, below, count, In}
 use Rattle.finite.specs.Search.{any, member}
 use Rattle.finite.specs.Pairs.{pairLe}
 use Rattle.finite.proofs.Tests.{and-i, and-l, and-r, nand-i, or-l, or-r, or-e, or-not, split, same, true-of, eqb-of, neqb}
-use Rattle.finite.proofs.Count.{bit-yes, bit-no, in-append, distinct-snoc, distinct-below, length-below, in-below, count-length, count-some, count-none, count-all, count-mono, count-cong, count-witness, count-strict}
+use Rattle.finite.proofs.Count.{bit-yes, bit-no, in-append, distinct-snoc, distinct-below, in-below, count-length, count-below-le, count-some, count-none, count-all, count-mono, count-cong, count-witness, count-strict}
 use Rattle.finite.proofs.Search.{member-i, member-e, member-past, count-one}
 use Rattle.finite.proofs.Pairs.{pair-lt, pair-eq, pair-e, pair-trans, pair-first, pair-before}
 use Rattle.anchored.specs.Graph.{Graph, Simple}
@@ -72,11 +72,11 @@ module _ {G : Graph} {A : ℕ → Bool} {deg lev lay : ℕ → ℕ} {k turn : �
     pub room : (w : ℕ) → w < G .size → T (not (A w)) → lev w ≡ 65535 → done < G .size
     room w b a none =
         let some = count-some (unset A lev) (below (G .size)) w (in-below (G .size) w .1 b) (and-i (not (A w)) _ a (eqb-of (lev w) 65535 none)) in
-        omega (arith, P .total, count-length (λ v. not (A v)) (below (G .size)), length-below (G .size))
+        omega (arith, P .total, count-below-le (λ v. not (A v)) (G .size))
 
     -- no more vertices have a level than there are
     pub room-all : done ≤ G .size
-    room-all = omega (arith, P .total, count-length (λ v. not (A v)) (below (G .size)), length-below (G .size))
+    room-all = omega (arith, P .total, count-below-le (λ v. not (A v)) (G .size))
 
     -- a vertex whose k neighbors present are too few for the next level, and too many for the turn before, gets level k and the next layer
     module _ (w : ℕ) (b : w < G .size) (a : T (not (A w))) (none : lev w ≡ 65535) (many : count here (G .neighbors w) ≡ k)

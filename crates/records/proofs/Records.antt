@@ -6,9 +6,8 @@ use Prim.Native.Nat.{ℕ, _≤_}
 use native.Mathlib.Omega.{arith}
 use lib.ListN.{length, getD, replicate, length-replicate}
 use lib.Dec.{eqb}
-use Rattle.finite.specs.Count.{below}
 use Rattle.finite.specs.Sets.{has}
-use Rattle.finite.proofs.Count.{length-below, count-length, zeros-at}
+use Rattle.finite.proofs.Count.{count-below-le, zeros-at}
 use Rattle.table.specs.Table.{vertices, SoundTable}
 use Rattle.anchored.specs.Graph.{Graph}
 use Rattle.anchored.specs.Core.{level}
@@ -46,11 +45,11 @@ bare-held s l bare holds v h = holds v h ∙ ap (λ A. level (graphOf s l) A v) 
 -- a vertex has at most n followers, and reaches at most n
 pub followers-le : (G : Graph) (A : ℕ → Bool) (x : ℕ) → followers G A x ≤ G .size
 unfolding followers
-followers-le G A x = omega (arith, count-length (follows G A x) (below (G .size)), length-below (G .size))
+followers-le G A x = count-below-le (follows G A x) (G .size)
 
 pub reached-le : (G : Graph) (A : ℕ → Bool) (x : ℕ) → reached G A x ≤ G .size
 unfolding reached
-reached-le G A x = omega (arith, count-length (has (candidates G A x)) (below (G .size)), length-below (G .size))
+reached-le G A x = count-below-le (has (candidates G A x)) (G .size)
 
 -- at the start: bytes that read as the given ones, and stamps 0
 pub stands-start : (s l given requests : List ℕ) (kept : Record) → ((v : ℕ) → getD (kept .anchored) v 0 ≡ getD given v 0) → Holds (kept .stamp) (vertices s) (λ v. 0)

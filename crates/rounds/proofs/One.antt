@@ -8,7 +8,7 @@ use borrow.Author.Tests.{eq-eqb, ne-eqb}
 use Rattle.finite.specs.Count.{below, count}
 use Rattle.finite.specs.Search.{any}
 use Rattle.finite.proofs.Tests.{and-i, split, true-of, eqb-of}
-use Rattle.finite.proofs.Count.{count-length, length-below, tabulate-cong}
+use Rattle.finite.proofs.Count.{count-below-le, tabulate-cong}
 use Rattle.finite.proofs.Search.{any-below-i}
 use Rattle.anchored.specs.Graph.{Graph}
 use Rattle.anchored.specs.Yield.{choice}
@@ -29,8 +29,7 @@ module _ (G : Graph) (H : Houses) (quota : ℕ → ℕ) (A : ℕ → Bool) (alon
   left : (i : ℕ) → i < quota 0 → 0 < before i .turns .left 0
   left i h =
       let kept = quota-kept G H (houseChoice G H) quota A some 0 some i in
-      let few = count-length (λ k. eqb (servedOn G H (before k)) 0) (below i) in
-      omega (arith, kept, few, length-below i)
+      omega (arith, kept, count-below-le (λ k. eqb (servedOn G H (before k)) 0) i)
 
   -- with somebody left it is not to be passed before its last line
   waits : (i : ℕ) → i < quota 0 → let B = before i .session .anchors in T (any (freeIn H B 0) (below (G .size))) → T (not (isPassed H (G .size) B (before i .turns) 0))

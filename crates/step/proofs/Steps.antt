@@ -12,7 +12,7 @@ use lib.Dec.{T, ltb, eqb, eqb→eq, ltb→lt, nltb→le}
 use borrow.Author.Tests.{lt-ltb, le-ltb, eq-eqb, ne-eqb}
 use Rattle.finite.specs.Count.{bit, count, below}
 use Rattle.finite.proofs.Tests.{split, true-of, false-of, of-true, and-l, neqb}
-use Rattle.finite.proofs.Count.{set-reads, in-below, length-below, count-length, count-cong, count-below-zero, count-below-more}
+use Rattle.finite.proofs.Count.{set-reads, in-below, count-cong, count-below-zero, count-below-more, count-below-le}
 use Rattle.table.specs.Table.{vertices}
 use Rattle.anchored.specs.Graph.{Graph, Simple}
 use Rattle.anchored.specs.Followers.{adding, followers, followerCount}
@@ -85,7 +85,7 @@ module _ {p : ℕ → Bool} {f : ℕ → ℕ} {old : List ℕ} where
     }
 
     -- so in the end
-    renewed-all : (v : ℕ) → v < u → getD new v 0 ≡ cond (p v) (f v) (getD old v 0)
+    pub renewed-all : (v : ℕ) → v < u → getD new v 0 ≡ cond (p v) (f v) (getD old v 0)
     renewed-all v h = rw (lt-ltb v u h) at (r .places v)
 
     -- tests alike below u renew alike
@@ -104,7 +104,7 @@ module _ {s l a : List ℕ} {reaching : Bool} {p : ℕ → Bool} {position : ℕ
 
   module _ {new : Rows} {redone u : ℕ} (r : Redone s l a reaching p position old new redone u) where
     pub redone-le : redone ≤ u
-    redone-le = omega (arith, r .number, count-length p (below u), length-below u)
+    redone-le = omega (arith, r .number, count-below-le p u)
 
     -- a row that is not stale
     pub redone-skip : p u ≡ false → Redone s l a reaching p position old new redone (u + 1)
