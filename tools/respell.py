@@ -111,12 +111,12 @@ def clauses(text):
         new = head
         for p in re.finditer(r"\b(\w+): &(?:'\w+ )?(mut )?", params):
             name, mut = p[1], bool(p[2])
-            new = re.sub(r"\(old " + name + r"\)|\bold " + name + r"\b", name + (".old" if mut else ".now"), new)
-            new = re.sub(r"\(final " + name + r"\)|\bfinal " + name + r"\b", name + (".new" if mut else ".now"), new)
+            new = re.sub(r"\(old " + name + r"\)|(?<!\.)\bold " + name + r"\b", name + (".old" if mut else ".now"), new)
+            new = re.sub(r"\(final " + name + r"\)|(?<!\.)\bfinal " + name + r"\b", name + (".new" if mut else ".now"), new)
         out += [text[last:m.end()], new]
         last = m.end() + len(head)
     text = "".join(out) + text[last:]
-    return text if re.search(r"\b(old|final) \w+", re.sub(r"//.*", "", text)) else re.sub(r"ghost use Rattle\.finite\.specs\.Moments\.\{[^}]*\};\n", "", text)
+    return text if re.search(r"(?<!\.)\b(old|final) \w+", re.sub(r"//.*", "", text)) else re.sub(r"ghost use Rattle\.finite\.specs\.Moments\.\{[^}]*\};\n", "", text)
 
 
 def main():

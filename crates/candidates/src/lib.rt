@@ -1,6 +1,5 @@
 // The candidates of a vertex: those that an upstair walk from it reaches, put into a queue one after the other.
 ghost use Rattle.std.specs.Prelude.{◌≡◌, ◌<◌, length, take};
-ghost use Rattle.finite.specs.Moments.{old, final};
 ghost use Rattle.table.specs.Table.{vertices, neighbors as neighbors_of};
 ghost use Rattle.pool.specs.Sheet.{Sheet};
 ghost use Rattle.candidates.specs.Reaching.{steps_of, visit_all, Queued, Reached};
@@ -20,7 +19,7 @@ pub fn reach(
 ) -> usize
     requires sheet { Sheet starts.now links.now anchored.now levels.now layers.now }
     requires x_bound { x < vertices starts.now }
-    requires queued { Queued (vertices starts.now) marks.queue.old.old 0 }
+    requires queued { Queued (vertices starts.now) marks.old queue.old 0 }
     ensures { Reached starts.now links.now anchored.now x marks.new queue.new result }
 {
     let mut tail = expand(
@@ -52,7 +51,7 @@ fn expand(
 ) -> usize
     requires sheet { Sheet starts.now links.now anchored.now levels.now layers.now }
     requires u_bound { u < vertices starts.now }
-    requires queued_2 { Queued (vertices starts.now) marks.queue.old.old tail }
+    requires queued_2 { Queued (vertices starts.now) marks.old queue.old tail }
     ensures queued { Queued (vertices starts.now) marks.new queue.new result }
     ensures pushed { let passes = steps_of anchored.now levels.now layers.now first u in
         take result queue.new ≡ visit_all passes (take tail queue.old) (neighbors_of starts.now links.now u) }

@@ -1,7 +1,6 @@
 // The cascade: x is withdrawn from its neighbors; whom too few then hold falls, and is withdrawn in turn. How many hold a vertex is
 // counted when it first loses one, and kept from then on.
 ghost use Rattle.std.specs.Prelude.{◌≡◌, [], cond, ℕ, ◌+◌, ◌-◌, ◌≤◌, ◌<◌, length, get_or, set, T};
-ghost use Rattle.finite.specs.Moments.{old, final};
 ghost use Rattle.finite.specs.Count.{bit, count};
 ghost use Rattle.table.specs.Table.{vertices, neighbors as neighbors_of, SoundTable};
 ghost use Rattle.anchored.specs.Collapse.{fall_mark, exposed};
@@ -66,7 +65,7 @@ fn withdraw(
 ) -> usize
     requires leveled { Leveled starts.now links.now anchored.now levels.now }
     requires head_lt_end { head < end }
-    requires falling_2 { Falling starts.now links.now anchored.now levels.now x (withdrawn fallen.old head []) support.fallen.old.old end }
+    requires falling_2 { Falling starts.now links.now anchored.now levels.now x (withdrawn fallen.old head []) support.old fallen.old end }
     ensures falling { Falling starts.now links.now anchored.now levels.now x (withdrawn fallen.new (head + 1) []) support.new fallen.new result }
     ensures longer { head < result }
 {

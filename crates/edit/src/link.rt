@@ -1,6 +1,5 @@
 // One link put into a table in place, or taken out: the starts behind its vertex move by one, and so do the links behind its place.
 ghost use Rattle.std.specs.Prelude.{◌≡◌, ℕ, ◌+◌, ◌≤◌, ◌<◌, length, get_or, T};
-ghost use Rattle.finite.specs.Moments.{old, final};
 ghost use Rattle.finite.specs.Count.{In, tabulate};
 ghost use Rattle.finite.specs.Search.{ascending};
 ghost use Rattle.finite.specs.Edits.{insert, remove};
@@ -93,10 +92,10 @@ fn close(links: &mut [u16], p: usize, last: usize)
 
 // Puts w, which is no neighbor of v, into the neighbors of v.
 pub fn put(starts: &mut [u16], links: &mut [u16], v: usize, w: u16)
-    requires padded { Padded starts.links.old.old }
+    requires padded { Padded starts.old links.old }
     requires v_bound { v < vertices starts.old }
     requires starts_in_bounds { last_start starts.old < length links.old }
-    requires fact { In w (neighbors_of starts.links.old.old v) → ⊥ }
+    requires fact { In w (neighbors_of starts.old links.old v) → ⊥ }
     ensures { Relisted starts.old links.old v (insert w (neighbors_of starts.old links.old v)) starts.new links.new }
 {
     let p = find(starts, links, v, w);
@@ -107,10 +106,10 @@ pub fn put(starts: &mut [u16], links: &mut [u16], v: usize, w: u16)
 
 // Takes w, a neighbor of v, out of the ascending neighbors of v.
 pub fn take(starts: &mut [u16], links: &mut [u16], v: usize, w: u16)
-    requires padded { Padded starts.links.old.old }
+    requires padded { Padded starts.old links.old }
     requires v_bound { v < vertices starts.old }
-    requires t { T (ascending (neighbors_of starts.links.old.old v)) }
-    requires fact { In w (neighbors_of starts.links.old.old v) }
+    requires t { T (ascending (neighbors_of starts.old links.old v)) }
+    requires fact { In w (neighbors_of starts.old links.old v) }
     ensures { Relisted starts.old links.old v (remove w (neighbors_of starts.old links.old v)) starts.new links.new }
 {
     let p = find(starts, links, v, w);

@@ -1,6 +1,5 @@
 // One event on a table and a record: a vertex is anchored, or an edge is added or dropped. Exactly one turn of the plain session.
 ghost use Rattle.std.specs.Prelude.{◌≡◌, ◌≤◌, ◌<◌, length};
-ghost use Rattle.finite.specs.Moments.{old, final};
 ghost use Rattle.table.specs.Table.{vertices, SoundTable};
 ghost use Rattle.anchored.specs.Events.{event_of, edge_event, edge_status};
 ghost use Rattle.pool.specs.Input.{graph_of, Admitted};
@@ -89,9 +88,9 @@ fn change(
     b: usize,
     position: u16,
 ) -> Stepped
-    requires tabled { Tabled starts.links.old.old (graph_of starts.links.old.old) }
-    requires right { Right starts.links.old.old kept }
-    requires b_value { edge_status (graph_of starts.links.old.old) (edge_event adding a b) ≡ 0 }
+    requires tabled { Tabled starts.old links.old (graph_of starts.old links.old) }
+    requires right { Right starts.old links.old kept }
+    requires b_value { edge_status (graph_of starts.old links.old) (edge_event adding a b) ≡ 0 }
     ensures { Turned starts.old links.old position (edge_event adding a b) kept starts.new links.new result }
 {
     edit::edge::edit(starts, links, adding, a, b);
@@ -122,8 +121,8 @@ pub fn turn(
     second: usize,
     position: u16,
 ) -> Stepped
-    requires tabled { Tabled starts.links.old.old (graph_of starts.links.old.old) }
-    requires right { Right starts.links.old.old kept }
+    requires tabled { Tabled starts.old links.old (graph_of starts.old links.old) }
+    requires right { Right starts.old links.old kept }
     ensures { Turned starts.old links.old position (event_of kind first second) kept starts.new links.new result }
 {
     if 2 < kind {

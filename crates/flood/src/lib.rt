@@ -1,7 +1,6 @@
 // Components: a flood from each vertex that has no number yet, in ascending order, through vertices of one level. The array `pending` has
 // the level of a vertex without a number and 65,535 for any other, so that one test tells who joins a flood.
 ghost use Rattle.std.specs.Prelude.{◌≡◌, ◌≤◌, length, get_or};
-ghost use Rattle.finite.specs.Moments.{old, final};
 ghost use Rattle.table.specs.Table.{vertices, neighbors};
 ghost use Rattle.anchored.specs.Component.{component as component_of};
 ghost use Rattle.pool.specs.Input.{graph_of, anchored_by};
@@ -21,7 +20,7 @@ fn visit(
     u: usize,
     tail: usize,
 ) -> usize
-    requires { CanVisit starts.now links.now pending.component.old.queue.old.old k start u tail }
+    requires { CanVisit starts.now links.now pending.old component.old queue.old k start u tail }
     ensures { let seen = neighbors starts.now links.now u in
         Visits starts.now links.now pending.old component.old queue.old k start u tail seen pending.new component.new queue.new result }
 {
@@ -51,7 +50,7 @@ fn spread(
     start: usize,
     tail: usize,
 ) -> usize
-    requires { CanSpread starts.now links.now pending.component.old.queue.old.old start tail }
+    requires { CanSpread starts.now links.now pending.old component.old queue.old start tail }
     ensures { Spreads starts.now links.now pending.old component.old queue.old start tail pending.new component.new queue.new result }
 {
     let k = pending[start];

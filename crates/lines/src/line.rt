@@ -1,7 +1,6 @@
 // The lines of the text, a function for each kind of form. A line that is read is kept with its number and its form.
 ghost use Rattle.std.specs.Prelude.{◌≡◌, ◌+◌, ◌≤◌, length};
 ghost use Rattle.std.proofs.lemmas.List.Edits.{sets};
-ghost use Rattle.finite.specs.Moments.{old, final};
 ghost use Rattle.lines.specs.List.{first_beyond, anchor};
 ghost use Rattle.lines.specs.Line.{riders_at, rider_at, retained_at, rounds_at, number_of_form, kept_form, kept_list};
 ghost use Rattle.lines.specs.declared.line.Form.{Form};

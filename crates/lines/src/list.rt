@@ -1,7 +1,6 @@
 // A list of numbers, a space before each: neighbors go to the links, the retained to the anchored bytes.
 ghost use Rattle.std.specs.Prelude.{◌≡◌, ◌&&◌, ◌≤◌, set, leb};
 ghost use Rattle.std.proofs.lemmas.List.Edits.{sets};
-ghost use Rattle.finite.specs.Moments.{old, final};
 ghost use Rattle.lines.specs.List.{list_at, listed_of, or_beyond, retained_of, anchor as anchor_of};
 
 use reader::held::{byte_at, take_number};

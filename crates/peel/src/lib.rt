@@ -1,6 +1,5 @@
 // Working the level sheet: vertices go in batches, from a queue, each in the shell of its level.
 ghost use Rattle.std.specs.Prelude.{◌≡◌, not, [], ◌∷◌, ◌+◌, ◌≤◌, ◌<◌, length, set, replicate};
-ghost use Rattle.finite.specs.Moments.{old, final};
 ghost use Rattle.finite.specs.Count.{below, count};
 ghost use Rattle.table.specs.Table.{vertices};
 ghost use Rattle.pool.specs.Input.{graph_of, anchored_by, Admitted};
@@ -40,8 +39,8 @@ fn strike(
     tail: usize,
 ) -> usize
     requires turn_bound { turn ≤ 1024 }
-    requires long { Long degree.level.old.layer.old.queue.old.old }
-    requires can_strike { CanStrike degree.level.old.layer.old.old k turn (w ∷ []) tail }
+    requires long { Long degree.old level.old layer.old queue.old }
+    requires can_strike { CanStrike degree.old level.old layer.old k turn (w ∷ []) tail }
     ensures { Strikes degree.old level.old layer.old queue.old degree.new level.new layer.new queue.new k turn (w ∷ []) tail result }
 {
     let d = degree[w];
@@ -64,8 +63,8 @@ fn lower(
     tail: usize,
 ) -> usize
     requires turn_bound { turn ≤ 1024 }
-    requires long { Long degree.level.old.layer.old.queue.old.old }
-    requires can_strike { CanStrike degree.level.old.layer.old.old k turn part.now tail }
+    requires long { Long degree.old level.old layer.old queue.old }
+    requires can_strike { CanStrike degree.old level.old layer.old k turn part.now tail }
     ensures { Strikes degree.old level.old layer.old queue.old degree.new level.new layer.new queue.new k turn part.now tail result }
 {
     let mut end = tail;
@@ -89,8 +88,8 @@ fn batch(
     queue: &mut [u16; 1024],
 ) -> usize
     requires head_le_end { (head ≤ end) × (turn ≤ 1024) }
-    requires long { Long degree.level.old.layer.old.queue.old.old }
-    requires can_remove { CanRemove starts.now links.now degree.level.old.layer.old.queue.old.old k turn head end }
+    requires long { Long degree.old level.old layer.old queue.old }
+    requires can_remove { CanRemove starts.now links.now degree.old level.old layer.old queue.old k turn head end }
     ensures { Removes starts.now links.now degree.old level.old layer.old queue.old degree.new level.new layer.new queue.new k turn head end result }
 {
     let mut tail = end;
@@ -113,8 +112,8 @@ fn look(
     queue: &mut [u16; 1024],
     tail: usize,
 ) -> usize
-    requires long { Long degree.now level.layer.old.queue.old.old }
-    requires can_look { CanLook anchored.now degree.now level.layer.old.old k v (v + 1) tail }
+    requires long { Long degree.now level.old layer.old queue.old }
+    requires can_look { CanLook anchored.now degree.now level.old layer.old k v (v + 1) tail }
     ensures { Looks anchored.now degree.now level.old layer.old queue.old level.new layer.new queue.new k v (v + 1) tail result }
 {
     if degree[v] != k {
@@ -137,8 +136,8 @@ fn seed(
     queue: &mut [u16; 1024],
     tail: usize,
 ) -> usize
-    requires long { Long degree.now level.layer.old.queue.old.old }
-    requires can_look { CanLook anchored.now degree.now level.layer.old.old k 0 n tail }
+    requires long { Long degree.now level.old layer.old queue.old }
+    requires can_look { CanLook anchored.now degree.now level.old layer.old k 0 n tail }
     ensures { Looks anchored.now degree.now level.old layer.old queue.old level.new layer.new queue.new k 0 n tail result }
 {
     let mut end = tail;
@@ -162,8 +161,8 @@ fn shell(
 ) -> usize
     requires admitted { Admitted starts.now links.now anchored.now }
     requires k_bound { k < 1024 }
-    requires long { Long degree.level.old.layer.old.queue.old.old }
-    requires peels { Peels (graph_of starts.now links.now) anchored.now degree.level.old.layer.old.old k 0 [] [] [] 0 tail }
+    requires long { Long degree.old level.old layer.old queue.old }
+    requires peels { Peels (graph_of starts.now links.now) anchored.now degree.old level.old layer.old k 0 [] [] [] 0 tail }
     ensures { Long degree.new level.new layer.new queue.new
         × Peels (graph_of starts.now links.now) anchored.now degree.new level.new layer.new (k + 1) 0 [] [] [] 0 result }
 {

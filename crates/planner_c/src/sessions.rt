@@ -1,6 +1,5 @@
 // A session over a list of events. `claim` is demand 3 of document 01, of every call that answers 0; the size is that of the table before the events.
 ghost use Rattle.std.specs.Prelude.{◌≡◌};
-ghost use Rattle.finite.specs.Moments.{old, final};
 ghost use Rattle.table.specs.Size.{size_of};
 ghost use Rattle.table.specs.Guard.{answer, held};
 ghost use Rattle.session.specs.Run.{lists, slices, run_of, ended};

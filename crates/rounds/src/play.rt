@@ -1,6 +1,5 @@
 // One round: a vertex is anchored, in one step of a session, and the round's line is written.
 ghost use Rattle.std.specs.Prelude.{◌≡◌, cond, ◌+◌, ◌≤◌, ◌<◌, length, get_or, ltb};
-ghost use Rattle.finite.specs.Moments.{old, final};
 ghost use Rattle.table.specs.Table.{vertices};
 ghost use Rattle.anchored.specs.Session.{turn};
 ghost use Rattle.anchored.specs.Houses.{served, after_turn};

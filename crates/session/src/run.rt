@@ -2,7 +2,6 @@
 ghost use Rattle.std.specs.Prelude.{◌≡◌, true, cond, ◌&&◌, length, T, ltb, eqb};
 ghost use Rattle.finite.specs.Count.{tabulate};
 ghost use Rattle.finite.specs.Search.{all};
-ghost use Rattle.finite.specs.Moments.{old, final};
 ghost use Rattle.table.specs.Table.{vertices};
 ghost use Rattle.table.specs.Size.{size_of};
 ghost use Rattle.table.specs.declared.size.Size.{Size};
@@ -36,7 +35,7 @@ fn serve(
     lifted: &mut [u16],
     redone: &mut [u16],
 ) -> Record
-    requires runs { Runs starts.links.old.given.now.now (lists kinds.now firsts.now seconds.now) }
+    requires runs { Runs starts.old links.old given.now (lists kinds.now firsts.now seconds.now) }
     requires status_len { length status.old ≡ length kinds.now }
     requires lifted_len { length lifted.old ≡ length kinds.now }
     requires redone_len { length redone.old ≡ length kinds.now }
@@ -85,9 +84,9 @@ fn write(
     lifted: &mut [u16],
     redone: &mut [u16],
 )
-    requires runs { Runs starts.links.old.given.now.now (lists kinds.now firsts.now seconds.now) }
-    requires fact { let lent = slices starts.links.old.anchored.old.levels.old.layers.old.components.old.old
-        yields.reached.old.stamps.old.status.old.lifted.old.redone.old.old in
+    requires runs { Runs starts.old links.old given.now (lists kinds.now firsts.now seconds.now) }
+    requires fact { let lent = slices starts.old links.old anchored.old levels.old layers.old components.old
+        yields.old reached.old stamps.old status.old lifted.old redone.old in
         T (sized (vertices starts.old) (length kinds.now) lent) }
     ensures { let after = slices starts.new links.new anchored.new levels.new layers.new components.new
         yields.new reached.new stamps.new status.new lifted.new redone.new in

@@ -1,7 +1,6 @@
 // Writing the lines of the answer sheet, and the line of a refusal, into lent bytes.
 // Each writer answers the place after what it wrote.
 ghost use Rattle.std.specs.Prelude.{◌≡◌, [], ◌∷◌, ◌++◌, ◌+◌, ◌≤◌, ◌<◌, length, eqb};
-ghost use Rattle.finite.specs.Moments.{old, final};
 ghost use Rattle.finite.specs.Bytes.{digit, decimal};
 ghost use Rattle.sheet.specs.Written.{Written};
 ghost use Rattle.sheet.specs.Parted.{Parted};

@@ -1,6 +1,5 @@
 // The rows that an event makes stale, found by columns and marks: a byte for each place, 1 where marked. Each pass adds to its marks.
 ghost use Rattle.std.specs.Prelude.{◌≡◌, ◌≤◌, ◌<◌, length};
-ghost use Rattle.finite.specs.Moments.{old, final};
 ghost use Rattle.table.specs.Table.{vertices, SoundTable};
 ghost use Rattle.pool.specs.Arrays.{Holds};
 ghost use Rattle.stale.specs.Marks.{Added, up_to, differs, carried, marking, inside_by, looks_through};

@@ -1,6 +1,5 @@
 // The record of a session after one more request: exactly one turn of the plain session.
 ghost use Rattle.std.specs.Prelude.{◌≡◌, ◌≤◌, ◌<◌, length, get_or};
-ghost use Rattle.finite.specs.Moments.{old, final};
 ghost use Rattle.table.specs.Table.{vertices};
 ghost use Rattle.pool.specs.Input.{graph_of, anchored_by, Admitted};
 ghost use Rattle.stale.specs.Columns.{ColumnsOf};

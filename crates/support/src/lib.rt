@@ -1,6 +1,5 @@
 // The support of the candidates: counted, and those of too little struck out until all others have enough.
 ghost use Rattle.std.specs.Prelude.{◌≡◌, ℕ, ◌≤◌, ◌<◌, length, get_or, take};
-ghost use Rattle.finite.specs.Moments.{old, final};
 ghost use Rattle.finite.specs.Count.{count, In};
 ghost use Rattle.finite.specs.Search.{member};
 ghost use Rattle.table.specs.Table.{vertices, neighbors as neighbors_of, SoundTable};
@@ -24,7 +23,7 @@ pub fn weigh(
     struck: &mut [u16; 1024],
 ) -> usize
     requires leveled { Leveled starts.now links.now anchored.now levels.now }
-    requires queued { Queued (vertices starts.now) marks.queue.now.now tail }
+    requires queued { Queued (vertices starts.now) marks.old queue.now tail }
     requires starts_in_bounds { (vertices starts.now ≤ length support.old) × (vertices starts.now ≤ length struck.old) }
     ensures weighed { Weighed (vertices starts.now) levels.now (marked marks.new) (state marks.new support.new struck.new result) }
     ensures candidates { (v : ℕ) → marked marks.new v ≡ member v (take tail queue.now) }
@@ -109,7 +108,7 @@ pub fn settle(
 ) -> usize
     requires sound_table { SoundTable starts.now links.now }
     requires starts_in_bounds { vertices starts.now ≤ length levels.now }
-    requires weighed { Weighed (vertices starts.now) levels.now (marked marks.old) (state marks.support.old.struck.old.old weak) }
+    requires weighed { Weighed (vertices starts.now) levels.now (marked marks.old) (state marks.old support.old struck.old weak) }
     ensures { Settled starts.now links.now levels.now (λ v. get_or support.old v 0) (marked marks.old) (state marks.new support.new struck.new result) }
 {
     let mut end = weak;

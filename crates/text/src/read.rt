@@ -2,7 +2,6 @@
 ghost use Rattle.std.specs.Prelude.{◌≡◌, ◌≤◌, length};
 ghost use mathlib.Core.List.{flatten};
 ghost use Rattle.std.proofs.lemmas.List.Edits.{sets};
-ghost use Rattle.finite.specs.Moments.{old, final};
 ghost use Rattle.lines.specs.List.{anchor};
 ghost use Rattle.lines.specs.Line.{retained_at};
 ghost use Rattle.text.specs.Text.{rider_lines_at, rider_lines_of, starts_of, rest_of, reading_of, starts_read, links_read, retained_read};
