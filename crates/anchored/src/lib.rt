@@ -1,1 +1,2 @@
 // No code: the definitions of specs/ are what contracts cite, the theorems of proofs/ what proofs cite.
+#![tactic(auto)]

@@ -1,4 +1,6 @@
 // The text-to-sheet call: a text's answer sheet into lent bytes, or a refusal.
+#![tactic(auto)]
+
 pub mod call; // the call
 
 pub use call::{Answered, text_to_sheet};

@@ -1,5 +1,7 @@
 // Runs the text-to-sheet call on the cases of standard input, `NAME: ROOM:TEXT` each, parted by semicolons: at its limits, and on
 // texts that it refuses; then on bytes past the greatest size.
+#![tactic(auto)]
+
 use answer::Answered;
 use cases::print::text;
 use cases::read::field;

@@ -1,4 +1,6 @@
 // The candidates of a vertex: those that an upstair walk from it reaches, put into a queue one after the other.
+#![tactic(auto)]
+
 ghost use Rattle.std.specs.Prelude.{◌≡◌, ◌<◌, length, take};
 ghost use Rattle.table.specs.Table.{vertices, neighbors as neighbors_of};
 ghost use Rattle.pool.specs.Sheet.{Sheet};

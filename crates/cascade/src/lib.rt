@@ -1,5 +1,7 @@
 // The cascade: x is withdrawn from its neighbors; whom too few then hold falls, and is withdrawn in turn. How many hold a vertex is
 // counted when it first loses one, and kept from then on.
+#![tactic(auto)]
+
 ghost use Rattle.std.specs.Prelude.{◌≡◌, [], cond, ℕ, ◌+◌, ◌-◌, ◌≤◌, ◌<◌, length, get_or, set, T};
 ghost use Rattle.finite.specs.Count.{bit, count};
 ghost use Rattle.table.specs.Table.{vertices, neighbors as neighbors_of, SoundTable};

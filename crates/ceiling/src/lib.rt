@@ -1,4 +1,6 @@
 // The ceiling of a search as an operation: it tests its input as the search does, marks apart, then works the ceiling out.
+#![tactic(auto)]
+
 ghost use Rattle.std.specs.Prelude.{◌≡◌};
 ghost use Rattle.table.specs.Size.{size_of};
 ghost use Rattle.table.specs.Guard.{answer};

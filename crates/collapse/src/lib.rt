@@ -1,4 +1,6 @@
 // A collapse as an operation: it tests its input, then marks those whose level falls when x and its edges are gone.
+#![tactic(auto)]
+
 ghost use Rattle.std.specs.Prelude.{◌≡◌, ◌≤◌, ◌<◌, length};
 ghost use Rattle.finite.specs.Count.{tabulate};
 ghost use Rattle.table.specs.Table.{vertices};

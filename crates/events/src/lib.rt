@@ -1,4 +1,6 @@
 // One event on a table and a record: a vertex is anchored, or an edge is added or dropped. Exactly one turn of the plain session.
+#![tactic(auto)]
+
 ghost use Rattle.std.specs.Prelude.{◌≡◌, ◌≤◌, ◌<◌, length};
 ghost use Rattle.table.specs.Table.{vertices, SoundTable};
 ghost use Rattle.anchored.specs.Events.{event_of, edge_event, edge_status};

@@ -1,4 +1,6 @@
 // The first day under k as an operation: it tests its input, then looks for the day.
+#![tactic(auto)]
+
 ghost use Rattle.std.specs.Prelude.{◌≡◌, ◌≤◌, length};
 ghost use Rattle.finite.specs.Search.{first};
 ghost use Rattle.table.specs.Size.{size_of};

@@ -1,5 +1,7 @@
 // Components: a flood from each vertex that has no number yet, in ascending order, through vertices of one level. The array `pending` has
 // the level of a vertex without a number and 65,535 for any other, so that one test tells who joins a flood.
+#![tactic(auto)]
+
 ghost use Rattle.std.specs.Prelude.{◌≡◌, ◌≤◌, length, get_or};
 ghost use Rattle.table.specs.Table.{vertices, neighbors};
 ghost use Rattle.anchored.specs.Component.{component as component_of};

@@ -1,4 +1,6 @@
 // Prints the numbers from 0 to 9,999 as the answer sheet has them in its fields of four digits, a line each.
+#![tactic(auto)]
+
 use libc::STDOUT_FILENO;
 
 fn print_number(v: u16) {

@@ -1,5 +1,7 @@
 // The shared sheet of each line of standard input, `NAME: STARTS: LINKS: ANCHORED: HOUSES: QUOTAS: ROOM`, the last so many lent bytes, each a
 // dash before: turns on a chain, a star and a kite, quotas spent and of 0, nobody left, and a refusal of each kind after the table's.
+#![tactic(auto)]
+
 use cases::print::{number, text};
 use cases::read::{bytes, field, numbers, value};
 use houses::Shared;

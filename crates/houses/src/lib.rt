@@ -1,4 +1,6 @@
 // Houses share the rounds of a sheet: the operation tests its input, then writes the lines.
+#![tactic(auto)]
+
 ghost use Rattle.std.specs.Prelude.{◌≡◌, ◌+◌, ◌≤◌, min, length};
 ghost use Rattle.table.specs.Size.{size_of};
 ghost use Rattle.table.specs.Guard.{answer, held, front};

@@ -1,2 +1,4 @@
 // The level work as an operation.
+#![tactic(auto)]
+
 pub mod work; // the level sheet with components

@@ -1,2 +1,4 @@
 // Level sheets that are handed in.
+#![tactic(auto)]
+
 pub mod check; // the check of a level sheet

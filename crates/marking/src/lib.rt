@@ -1,4 +1,6 @@
 // What an operation that is handed a level sheet and a vertex refuses, one that marks vertices besides, and an anchored vertex.
+#![tactic(auto)]
+
 ghost use Rattle.std.specs.Prelude.{◌≡◌, ◌<◌, length};
 ghost use Rattle.pool.specs.Input.{Admitted};
 ghost use Rattle.marking.specs.Marking.{vertex_of, guard_of_free, marking_of};

@@ -1,4 +1,6 @@
 // The numbers of an answer, as Rust and C get them.
+#![tactic(auto)]
+
 ghost use Rattle.std.specs.Prelude.{◌≡◌};
 ghost use Rattle.numbers.specs.Numbers.{accepted_as, refused_as, answered_as};
 ghost use Rattle.numbers.specs.Numbers.{checked_as, worked_as, levels_as, listed_as, searched_as, bounded_as, collapsed_as, dated_as, shared_as, ran_as};

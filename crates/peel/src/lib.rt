@@ -1,4 +1,6 @@
 // Working the level sheet: vertices go in batches, from a queue, each in the shell of its level.
+#![tactic(auto)]
+
 ghost use Rattle.std.specs.Prelude.{◌≡◌, not, [], ◌∷◌, ◌+◌, ◌≤◌, ◌<◌, length, set, replicate};
 ghost use Rattle.finite.specs.Count.{below, count};
 ghost use Rattle.table.specs.Table.{vertices};

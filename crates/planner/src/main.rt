@@ -1,4 +1,6 @@
 // The program: a text from standard input; its sheet, or the line of its refusal, to standard output.
+#![tactic(auto)]
+
 ghost use Rattle.std.specs.Prelude.{◌≡◌, ◌≤◌, length, take};
 ghost use Rattle.io.specs.Counts.{IsPrefixLen};
 ghost use Rattle.answer.specs.Answer.{answer_of, sheet_of_text, printed};

@@ -1,4 +1,6 @@
 // The record that a session keeps, and its start.
+#![tactic(auto)]
+
 use stale::Columns;
 
 pub mod afresh; // the columns, bare levels and the counts of a row, worked anew

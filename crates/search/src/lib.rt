@@ -1,4 +1,6 @@
 // The follower search: who rises when one more vertex is anchored.
+#![tactic(auto)]
+
 pub mod find; // the search on the defined sheet
 pub mod operation; // the search as an operation
 

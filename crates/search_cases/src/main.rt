@@ -1,6 +1,8 @@
 // The follower search, its ceiling and the collapse of each line of standard input, `NAME: STARTS: LINKS: ANCHORED: LEVELS: LAYERS: X: MARKS`, the
 // last what the marks' slice holds before: from every vertex of the pools A to H of document 01, of a star whose hub is anchored and of a
 // kite, which has two levels, from three of a fork, where two walks end at one vertex, and a refusal of each kind after the table's.
+#![tactic(auto)]
+
 use cases::print::{number, text};
 use cases::read::{bytes, field, numbers};
 use ceiling::Bounded;

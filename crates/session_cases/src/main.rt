@@ -1,6 +1,8 @@
 // Runs sessions on the chain of document 01, without events, with edges added and dropped on it, without vertices, and with as many events
 // as a session takes and one more. The lent slices are parts of arrays of 7s, the places past the last link too; of each but the anchored bytes the
 // first eight places are printed.
+#![tactic(auto)]
+
 ghost use Rattle.std.specs.Prelude.{◌≤◌, length};
 
 use cases::print::{number, row, rows, text};

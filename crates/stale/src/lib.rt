@@ -1,4 +1,6 @@
 // The rows that an event makes stale, found by columns and marks: a byte for each place, 1 where marked. Each pass adds to its marks.
+#![tactic(auto)]
+
 ghost use Rattle.std.specs.Prelude.{◌≡◌, ◌≤◌, ◌<◌, length};
 ghost use Rattle.table.specs.Table.{vertices, SoundTable};
 ghost use Rattle.pool.specs.Arrays.{Holds};

@@ -1,4 +1,6 @@
 // The record of a session after one more request: exactly one turn of the plain session.
+#![tactic(auto)]
+
 ghost use Rattle.std.specs.Prelude.{◌≡◌, ◌≤◌, ◌<◌, length, get_or};
 ghost use Rattle.table.specs.Table.{vertices};
 ghost use Rattle.pool.specs.Input.{graph_of, anchored_by, Admitted};

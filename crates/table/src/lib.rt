@@ -1,4 +1,6 @@
 // The adjacency table, in two lent slices: its check, refusals 1 to 8, and the neighbors of a vertex.
+#![tactic(auto)]
+
 ghost use Rattle.std.specs.Prelude.{◌≡◌, ◌<◌};
 ghost use Rattle.table.specs.Table.{vertices, check_of, Framed};
 ghost use Rattle.table.specs.Table.{neighbors as neighbors_of};

@@ -1,5 +1,7 @@
 // Runs the check on tables at and past the limits, then on those of standard input: small sound ones, and a wrong one for each
 // way of refusal, on a line `NAME: STARTS: LINKS` each.
+#![tactic(auto)]
+
 ghost use Rattle.std.specs.Prelude.{◌≡◌, ◌<◌, length};
 
 use cases::read::{field, numbers};

@@ -1,5 +1,7 @@
 // The first day of each line of standard input, `NAME: STARTS: LINKS: VERTICES: FIRSTS: ENDS: FROM: UNTIL: X: K`: on a chain and on a kite,
 // with terms that meet, overlap and lie outside the span, and a refusal of each kind after the table's.
+#![tactic(auto)]
+
 use cases::print::{number, text};
 use cases::read::{field, numbers, value};
 use first_day::Dated;

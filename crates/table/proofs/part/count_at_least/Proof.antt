@@ -10,55 +10,55 @@ use Rattle.finite.proofs.Count.{bit_le, count-start, count-more, count-end}
 use Rattle.table.proofs.part.count_at_least.Statement.{statement}
 use Rattle.table.proofs.part.count_at_least.Tie as tie
 
-abbrev invariant-loop : tie.invariant-loop
-invariant-loop part least count₀ i₀ count i = (i ≤ length part) × (count ≤ i) × (count ≡ count_of (leb least) (take i part))
+abbrev invariant-loop-i : tie.invariant-loop-i
+invariant-loop-i part least count₀ i₀ count i = (i ≤ length part) × (count ≤ i) × (count ≡ count_of (leb least) (take i part))
 
-abbrev decreases-loop : tie.decreases-loop
-decreases-loop part least count₀ i₀ count i = length part - i
+abbrev decreases-loop-i : tie.decreases-loop-i
+decreases-loop-i part least count₀ i₀ count i = length part - i
 
-loop-holds : tie.Need-loop-init invariant-loop decreases-loop
+loop-holds : tie.Need-loop-i-init invariant-loop-i decreases-loop-i
 loop-holds c = omega (arith, count-start (leb c.args.least) c.args.part.now)
 
-mul-count : tie.Need-overflow-mul-count invariant-loop decreases-loop
+mul-count : tie.Need-offset_bounds-part-i invariant-loop-i decreases-loop-i
 mul-count c = search rules
 
-shared-slice-read-count : tie.Need-shared-slice-read-count invariant-loop decreases-loop
+shared-slice-read-count : tie.Need-bounds-part-i invariant-loop-i decreases-loop-i
 shared-slice-read-count c = search rules
 
-cast-count : tie.Need-overflow-cast-count invariant-loop decreases-loop
-cast-count c = omega (arith, c.shared-slice-known.given c.before.before.loop.i)
+cast-count : tie.Need-overflow_cast-count invariant-loop-i decreases-loop-i
+cast-count c = omega (arith, c.shared_slice_known-1.given c.loop-i.i)
 
-cast-count-2 : tie.Need-overflow-cast-count-2 invariant-loop decreases-loop
+cast-count-2 : tie.Need-overflow_cast-count-in-loop-i invariant-loop-i decreases-loop-i
 cast-count-2 c = search rules
 
-add-count : tie.Need-overflow-add-count invariant-loop decreases-loop
+add-count : tie.Need-overflow_add-count invariant-loop-i decreases-loop-i
 add-count c =
-    let args = c.before.before.before.args in
-    omega (arith, bit_le (leb args.least (get_or args.part.now c.before.before.loop.i 0)))
+    let args = c.args in
+    omega (arith, bit_le (leb args.least (get_or args.part.now c.loop-i.i 0)))
 
-add-i : tie.Need-overflow-add-i invariant-loop decreases-loop
+add-i : tie.Need-overflow_add-i invariant-loop-i decreases-loop-i
 add-i c = search rules
 
-loop-less : tie.Need-loop-smaller invariant-loop decreases-loop
+loop-less : tie.Need-loop-i-smaller invariant-loop-i decreases-loop-i
 loop-less c = search rules
 
-loop-again : tie.Need-loop-preserved invariant-loop decreases-loop
+loop-again : tie.Need-loop-i-preserved invariant-loop-i decreases-loop-i
 loop-again c =
-    let args = c.before.before.before.args in
-    let i = c.before.before.loop.i in
+    let args = c.args in
+    let i = c.loop-i.i in
     omega (arith, count-more (leb args.least) args.part.now i (omega arith), bit_le (leb args.least (get_or args.part.now i 0)))
 
-returns : tie.Need-returns invariant-loop decreases-loop
+returns : tie.Need-returns invariant-loop-i decreases-loop-i
 returns c =
-    let args = c.before.before.args in
-    c.before.loop.invariant.2 ∙ count-end (leb args.least) args.part.now c.before.loop.i (omega arith)
+    let args = c.args in
+    c.loop-i.invariant.2 ∙ count-end (leb args.least) args.part.now c.loop-i.i (omega arith)
 
-pub count-at-least-spec : {M : Type 1} → statement M
-count-at-least-spec =
+pub count_at_least_spec : {M : Type 1} → statement M
+count_at_least_spec =
     tie.close
     (tie.spec
-    invariant-loop
-    decreases-loop
+    invariant-loop-i
+    decreases-loop-i
     loop-holds
     mul-count
     shared-slice-read-count

@@ -11,41 +11,41 @@ use Rattle.table.specs.Table.{bad_start}
 use Rattle.table.proofs.rules.first_bad_start.Statement.{statement}
 use Rattle.table.proofs.rules.first_bad_start.Tie as tie
 
-abbrev invariant-loop : tie.invariant-loop
-invariant-loop starts links i₀ i = (i ≤ length starts) × NoneBelow (bad_start starts links) i
+abbrev invariant-loop-i : tie.invariant-loop-i
+invariant-loop-i starts links i₀ i = (i ≤ length starts) × NoneBelow (bad_start starts links) i
 
-abbrev decreases-loop : tie.decreases-loop
-decreases-loop starts links i₀ i = length starts - i
+abbrev decreases-loop-i : tie.decreases-loop-i
+decreases-loop-i starts links i₀ i = length starts - i
 
-loop-holds : tie.Need-loop-init invariant-loop decreases-loop
+loop-holds : tie.Need-loop-i-init invariant-loop-i decreases-loop-i
 loop-holds c = (search rules, λ k h. absurd (omega arith))
 
-bad-start-requires : tie.Need-bad-start-requires invariant-loop decreases-loop
+bad-start-requires : tie.Need-bad_start-requires invariant-loop-i decreases-loop-i
 bad-start-requires c κs = search rules
 
-returns : tie.Need-returns invariant-loop decreases-loop
-returns c = sym (first_hit _ _ _ c.before.before.before.loop.invariant.1 (omega arith) (sym c.before.bad-start.ensures ∙ c.if1.true))
+returns : tie.Need-returns-then-bad_start invariant-loop-i decreases-loop-i
+returns c = sym (first_hit _ _ _ c.loop-i.invariant.1 (omega arith) (sym c.bad_start.ensures ∙ c.if-bad_start.true))
 
-add-i : tie.Need-overflow-add-i invariant-loop decreases-loop
+add-i : tie.Need-overflow_add-i invariant-loop-i decreases-loop-i
 add-i c = search rules
 
-loop-less : tie.Need-loop-smaller invariant-loop decreases-loop
+loop-less : tie.Need-loop-i-smaller invariant-loop-i decreases-loop-i
 loop-less c = search rules
 
-loop-again : tie.Need-loop-preserved invariant-loop decreases-loop
-loop-again c = (search rules, below_more _ _ c.before.before.before.loop.invariant.1 (sym c.before.bad-start.ensures ∙ c.if1.false))
+loop-again : tie.Need-loop-i-preserved invariant-loop-i decreases-loop-i
+loop-again c = (search rules, below_more _ _ c.loop-i.invariant.1 (sym c.bad_start.ensures ∙ c.if-bad_start.false))
 
-returns-2 : tie.Need-returns-2 invariant-loop decreases-loop
+returns-2 : tie.Need-returns invariant-loop-i decreases-loop-i
 returns-2 c =
-    let e : c.before.loop.i ≡ length c.before.before.before.before.args.starts.now = omega arith in
-    e ∙ sym (first-none _ _ (rw e at c.before.loop.invariant.1))
+    let e : c.loop-i.i ≡ length c.args.starts.now = omega arith in
+    e ∙ sym (first-none _ _ (rw e at c.loop-i.invariant.1))
 
-pub first-bad-start-spec : {M : Type 1} → statement M
-first-bad-start-spec =
+pub first_bad_start_spec : {M : Type 1} → statement M
+first_bad_start_spec =
     tie.close
     (tie.spec
-    invariant-loop
-    decreases-loop
+    invariant-loop-i
+    decreases-loop-i
     loop-holds
     bad-start-requires
     returns

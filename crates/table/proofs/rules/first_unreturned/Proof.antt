@@ -16,11 +16,11 @@ use Rattle.table.proofs.Laws.{in_range, sorted, missing}
 use Rattle.table.proofs.rules.first_unreturned.Statement.{statement}
 use Rattle.table.proofs.rules.first_unreturned.Tie as tie
 
-abbrev invariant-loop : tie.invariant-loop
-invariant-loop starts links n v part j₀ j = (j ≤ length part) × NoneBelow (λ i. missing starts links v (get_or part i 0)) j
+abbrev invariant-loop-j : tie.invariant-loop-j
+invariant-loop-j starts links n v part j₀ j = (j ≤ length part) × NoneBelow (λ i. missing starts links v (get_or part i 0)) j
 
-abbrev decreases-loop : tie.decreases-loop
-decreases-loop starts links n v part j₀ j = length part - j
+abbrev decreases-loop-j : tie.decreases-loop-j
+decreases-loop-j starts links n v part j₀ j = length part - j
 
 abbrev invariant-vertices : tie.invariant-vertices
 invariant-vertices starts links n v₀ v = (v ≤ n) × NoneBelow (unreturned starts links) v
@@ -30,111 +30,99 @@ decreases-vertices starts links n v₀ v = n - v
 
 -- the neighbor looked at is a vertex
 vertex :
-    (c : tie.After-shared-slice-known3 invariant-loop decreases-loop invariant-vertices decreases-vertices) →
-    let at = c.before.before in
-    let out = at.before.before.before in
-    get_or at.before.neighbors.result.now at.loop.j 0 < vertices out.before.before.before.args.starts.now
+    (c : tie.After-shared_slice_known-in-loop-j-1 invariant-loop-j decreases-loop-j invariant-vertices decreases-vertices) →
+    get_or c.neighbors-part.result.now c.loop-j.j 0 < vertices c.args.starts.now
 vertex c =
-    let at = c.before.before in
-    let out = at.before.before.before in
-    let start = out.before.before.before in
-    let part = at.before.neighbors.result.now in
-    let u = get_or part at.loop.j 0 in
-    let listed = subst (In u) at.before.neighbors.ensures (in_at part at.loop.j 0 (omega arith)) in
-    in_range start.args.starts.now start.args.links.now start.requires.1.0 out.vertices.v u (omega arith) listed
+    let part = c.neighbors-part.result.now in
+    let u = get_or part c.loop-j.j 0 in
+    let listed = subst (In u) c.neighbors-part.ensures (in_at part c.loop-j.j 0 (omega arith)) in
+    in_range c.args.starts.now c.args.links.now c.requires.1.0 c.vertices.v u (omega arith) listed
 
 -- what the call answers, said of the table
 answered :
-    (c : tie.After-contains invariant-loop decreases-loop invariant-vertices decreases-vertices) →
-    let at = c.before.before.before.before in
-    let out = at.before.before.before in
-    let args = out.before.before.before.args in
-    let u = get_or at.before.neighbors.result.now at.loop.j 0 in
-    c.contains.result ≡ member out.vertices.v (neighbors_of args.starts.now args.links.now u)
+    (c : tie.After-contains invariant-loop-j decreases-loop-j invariant-vertices decreases-vertices) →
+    let args = c.args in
+    let u = get_or c.neighbors-part.result.now c.loop-j.j 0 in
+    c.contains.result ≡ member c.vertices.v (neighbors_of args.starts.now args.links.now u)
 answered c =
-    let v = c.before.before.before.before.before.before.before.vertices.v in
-    c.contains.ensures ∙ ap (member v) c.before.neighbors2.ensures
+    let v = c.vertices.v in
+    c.contains.ensures ∙ ap (member v) c.neighbors.ensures
 
-sub-n : tie.Need-overflow-sub-n invariant-loop decreases-loop invariant-vertices decreases-vertices
+sub-n : tie.Need-overflow_sub-n invariant-loop-j decreases-loop-j invariant-vertices decreases-vertices
 sub-n c = search rules
 
-vertices-holds : tie.Need-vertices-init invariant-loop decreases-loop invariant-vertices decreases-vertices
+vertices-holds : tie.Need-vertices-init invariant-loop-j decreases-loop-j invariant-vertices decreases-vertices
 vertices-holds c = (search rules, λ k h. absurd (omega arith))
 
-neighbors-requires : tie.Need-neighbors-requires invariant-loop decreases-loop invariant-vertices decreases-vertices
+neighbors-requires : tie.Need-neighbors-part-requires invariant-loop-j decreases-loop-j invariant-vertices decreases-vertices
 neighbors-requires c κs = search rules
 
-loop-holds : tie.Need-loop-init invariant-loop decreases-loop invariant-vertices decreases-vertices
+loop-holds : tie.Need-loop-j-init invariant-loop-j decreases-loop-j invariant-vertices decreases-vertices
 loop-holds c = (search rules, λ k h. absurd (omega arith))
 
-mul-u : tie.Need-overflow-mul-u invariant-loop decreases-loop invariant-vertices decreases-vertices
+mul-u : tie.Need-offset_bounds-part-j invariant-loop-j decreases-loop-j invariant-vertices decreases-vertices
 mul-u c = search rules
 
-shared-slice-read-u : tie.Need-shared-slice-read-u invariant-loop decreases-loop invariant-vertices decreases-vertices
+shared-slice-read-u : tie.Need-bounds-part-j invariant-loop-j decreases-loop-j invariant-vertices decreases-vertices
 shared-slice-read-u c = search rules
 
-cast-u : tie.Need-overflow-cast-u invariant-loop decreases-loop invariant-vertices decreases-vertices
-cast-u c = omega (arith, c.shared-slice-known3.given c.before.before.loop.j)
+cast-u : tie.Need-overflow_cast-u invariant-loop-j decreases-loop-j invariant-vertices decreases-vertices
+cast-u c = omega (arith, c.shared_slice_known-in-loop-j-1.given c.loop-j.j)
 
-neighbors-requires-2 : tie.Need-neighbors-requires-2 invariant-loop decreases-loop invariant-vertices decreases-vertices
-neighbors-requires-2 c κs = (c.before.before.before.before.before.before.before.before.requires.0, vertex c)
+neighbors-requires-2 : tie.Need-neighbors-requires invariant-loop-j decreases-loop-j invariant-vertices decreases-vertices
+neighbors-requires-2 c κs = (c.requires.0, vertex c)
 
-contains-requires : tie.Need-contains-requires invariant-loop decreases-loop invariant-vertices decreases-vertices
+contains-requires : tie.Need-contains-requires invariant-loop-j decreases-loop-j invariant-vertices decreases-vertices
 contains-requires c κs =
-    let start = c.before.before.before.before.before.before.before.before.before in
-    let e = c.neighbors2.ensures in
-    rw e (sorted start.args.starts.now start.args.links.now start.requires.1.1 _ (vertex c.before))
+    let e = c.neighbors.ensures in
+    rw e (sorted c.args.starts.now c.args.links.now c.requires.1.1 _ (vertex c.before))
 
-add-j : tie.Need-overflow-add-j invariant-loop decreases-loop invariant-vertices decreases-vertices
+add-j : tie.Need-overflow_add-j invariant-loop-j decreases-loop-j invariant-vertices decreases-vertices
 add-j c = search rules
 
-loop-less : tie.Need-loop-smaller invariant-loop decreases-loop invariant-vertices decreases-vertices
+loop-less : tie.Need-loop-j-smaller invariant-loop-j decreases-loop-j invariant-vertices decreases-vertices
 loop-less c = search rules
 
-loop-again : tie.Need-loop-preserved invariant-loop decreases-loop invariant-vertices decreases-vertices
-loop-again c = (search rules, below_more _ _ c.before.before.before.before.before.loop.invariant.1 (ap not (sym (answered c.before)) ∙ c.if2.false))
+loop-again : tie.Need-loop-j-preserved invariant-loop-j decreases-loop-j invariant-vertices decreases-vertices
+loop-again c = (search rules, below_more _ _ c.loop-j.invariant.1 (ap not (sym (answered c.before)) ∙ ap not c.if-not-contains.false))
 
-add-v : tie.Need-overflow-add-v invariant-loop decreases-loop invariant-vertices decreases-vertices
+add-v : tie.Need-overflow_add-v invariant-loop-j decreases-loop-j invariant-vertices decreases-vertices
 add-v c = search rules
 
-vertices-less : tie.Need-vertices-smaller invariant-loop decreases-loop invariant-vertices decreases-vertices
+vertices-less : tie.Need-vertices-smaller invariant-loop-j decreases-loop-j invariant-vertices decreases-vertices
 vertices-less c = search rules
 
-vertices-again : tie.Need-vertices-preserved invariant-loop decreases-loop invariant-vertices decreases-vertices
+vertices-again : tie.Need-vertices-preserved invariant-loop-j decreases-loop-j invariant-vertices decreases-vertices
 unfolding unreturned
 vertices-again c =
-    let at = c.before in
-    let out = at.before.before.before in
-    let args = out.before.before.before.args in
-    let part = at.before.neighbors.result.now in
-    let test = missing args.starts.now args.links.now out.vertices.v in
-    let e = at.before.neighbors.ensures in
-    let none = any_none test part (λ k h. at.loop.invariant.1 k (omega arith)) in
-    (omega arith, below_more _ _ out.vertices.invariant.1 (rw e at none))
+    let args = c.args in
+    let part = c.neighbors-part.result.now in
+    let test = missing args.starts.now args.links.now c.vertices.v in
+    let e = c.neighbors-part.ensures in
+    let none = any_none test part (λ k h. c.loop-j.invariant.1 k (omega arith)) in
+    (omega arith, below_more _ _ c.vertices.invariant.1 (rw e at none))
 
-returns : tie.Need-returns invariant-loop decreases-loop invariant-vertices decreases-vertices
+returns : tie.Need-returns-then-n-v invariant-loop-j decreases-loop-j invariant-vertices decreases-vertices
 returns c =
-    let e : c.before.vertices.v ≡ vertices c.before.before.before.before.args.starts.now = omega arith in
-    sym (first-none _ _ (rw e at c.before.vertices.invariant.1))
+    let e : c.vertices.v ≡ vertices c.args.starts.now = omega arith in
+    sym (first-none _ _ (rw e at c.vertices.invariant.1))
 
-returns-2 : tie.Need-returns-2 invariant-loop decreases-loop invariant-vertices decreases-vertices
+returns-2 : tie.Need-returns-then-not-contains invariant-loop-j decreases-loop-j invariant-vertices decreases-vertices
 unfolding unreturned
 returns-2 c =
-    let at = c.before.before.before.before.before in
-    let out = at.before.before.before in
-    let args = out.before.before.before.args in
-    let part = at.before.neighbors.result.now in
-    let test = missing args.starts.now args.links.now out.vertices.v in
-    let e = at.before.neighbors.ensures in
-    let some = any_at test part at.loop.j (omega arith) (ap not (sym (answered c.before)) ∙ c.if2.true) in
-    sym (first_hit _ _ _ out.vertices.invariant.1 (omega arith) (rw e at some))
+    let args = c.args in
+    let part = c.neighbors-part.result.now in
+    let test = missing args.starts.now args.links.now c.vertices.v in
+    let e = c.neighbors-part.ensures in
+    let some = any_at test part c.loop-j.j (omega arith) (ap not (sym (answered c.before)) ∙ ap not c.if-not-contains.true) in
+    sym (first_hit _ _ _ c.vertices.invariant.1 (omega arith) (rw e at some))
 
-pub first-unreturned-spec : {M : Type 1} → statement M
-first-unreturned-spec =
+pub first_unreturned_spec : {M : Type 1} → statement M
+first_unreturned_spec =
     tie.close
     (tie.spec
-    invariant-loop
-    decreases-loop
+    invariant-loop-j
+    decreases-loop-j
     invariant-vertices
     decreases-vertices
     sub-n
