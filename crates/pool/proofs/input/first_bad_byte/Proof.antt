@@ -17,41 +17,41 @@ use Rattle.pool.proofs.input.first_bad_byte.Tie as tie
 abbrev above-one : List ℕ → ℕ → Bool
 above-one a v = ltb 1 (get_or a v 0)
 
-abbrev invariant-loop : tie.invariant-loop
-invariant-loop anchored v₀ v = (v ≤ length anchored) × NoneBelow (above-one anchored) v
+abbrev invariant-loop-v : tie.invariant-loop-v
+invariant-loop-v anchored v₀ v = (v ≤ length anchored) × NoneBelow (above-one anchored) v
 
-abbrev decreases-loop : tie.decreases-loop
-decreases-loop anchored v₀ v = length anchored - v
+abbrev decreases-loop-v : tie.decreases-loop-v
+decreases-loop-v anchored v₀ v = length anchored - v
 
-loop-holds : tie.Need-loop-init invariant-loop decreases-loop
+loop-holds : tie.Need-loop-v-init invariant-loop-v decreases-loop-v
 loop-holds c = (search rules, λ k h. absurd (omega arith))
 
-shared-slice-read-if1 : tie.Need-shared-slice-read-if1 invariant-loop decreases-loop
+shared-slice-read-if1 : tie.Need-bounds-anchored-v invariant-loop-v decreases-loop-v
 shared-slice-read-if1 c = search rules
 
-returns : tie.Need-returns invariant-loop decreases-loop
-returns c = sym (first_hit _ _ _ c.before.before.before.loop.invariant.1 (omega arith) (lt-ltb _ _ c.if1.true))
+returns : tie.Need-returns-then-anchored-v-gt1 invariant-loop-v decreases-loop-v
+returns c = sym (first_hit _ _ _ c.loop-v.invariant.1 (omega arith) (lt-ltb _ _ c.if-anchored-v-gt1.true))
 
-add-v : tie.Need-overflow-add-v invariant-loop decreases-loop
+add-v : tie.Need-overflow_add-v invariant-loop-v decreases-loop-v
 add-v c = search rules
 
-loop-less : tie.Need-loop-smaller invariant-loop decreases-loop
+loop-less : tie.Need-loop-v-smaller invariant-loop-v decreases-loop-v
 loop-less c = search rules
 
-loop-again : tie.Need-loop-preserved invariant-loop decreases-loop
-loop-again c = (search rules, below_more _ _ c.before.before.before.loop.invariant.1 (le-ltb _ _ c.if1.false))
+loop-again : tie.Need-loop-v-preserved invariant-loop-v decreases-loop-v
+loop-again c = (search rules, below_more _ _ c.loop-v.invariant.1 (le-ltb _ _ c.if-anchored-v-gt1.false))
 
-returns-2 : tie.Need-returns-2 invariant-loop decreases-loop
+returns-2 : tie.Need-returns invariant-loop-v decreases-loop-v
 returns-2 c =
-    let e : c.before.loop.v ≡ length c.before.before.args.anchored.now = omega arith in
-    e ∙ sym (first-none _ _ (rw e at c.before.loop.invariant.1))
+    let e : c.loop-v.v ≡ length c.args.anchored.now = omega arith in
+    e ∙ sym (first-none _ _ (rw e at c.loop-v.invariant.1))
 
-pub first-bad-byte-spec : {M : Type 1} → statement M
-first-bad-byte-spec =
+pub first_bad_byte_spec : {M : Type 1} → statement M
+first_bad_byte_spec =
     tie.close
     (tie.spec
-    invariant-loop
-    decreases-loop
+    invariant-loop-v
+    decreases-loop-v
     loop-holds
     shared-slice-read-if1
     returns

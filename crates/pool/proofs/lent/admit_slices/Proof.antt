@@ -10,46 +10,44 @@ use borrow.Author.Rules.{rules}
 use Rattle.pool.proofs.lent.admit_slices.Statement.{statement}
 use Rattle.pool.proofs.lent.admit_slices.Tie as tie
 
-abbrev entry : tie.After-admit → tie.Start
+abbrev entry : tie.After-admit-admitted → tie.Start
 entry c = c.before.before.before.before.before
 
-told : (c : tie.After-enum-told) → let args = (entry c.before.before).args in admit_of args.starts.now args.links.now args.anchored.now ≡ Passed
-told c = sym c.before.before.admit.ensures ∙ c.enum_told.given.1
+told : (c : tie.In-Passed) → let args = (entry c.before).args in admit_of args.starts.now args.links.now args.anchored.now ≡ Passed
+told c = sym c.admit-admitted.ensures ∙ c.in-Passed.is
 
-admit-requires : tie.Need-admit-requires
+admit-requires : tie.Need-admit-admitted-requires
 admit-requires c κs = search rules
 
-enum-known-admitted : tie.Need-enum-known-admitted
+enum-known-admitted : tie.Need-enum_known-admitted
 enum-known-admitted c = search rules
 
-enum_told : tie.Need-enum-told
+enum_told : tie.Need-enum_told-1
 enum_told c = search rules
 
-sub-all-are : tie.Need-overflow-sub-all-are
+sub-all-are : tie.Need-overflow_sub-starts
 sub-all-are c = (admitted _ _ _ (told c)).table.framed.some
 
-all-are-requires : tie.Need-all-are-requires
+all-are-requires : tie.Need-all_are-requires
 all-are-requires c κs = search rules
 
-returns : tie.Need-returns
+returns : tie.Need-returns-then-all_are
 returns c =
-    let tested = c.before in
-    sym (slices-lent _ _ _ _ (told tested.before) (sym tested.all_are.ensures ∙ c.if1.true))
+    sym (slices-lent _ _ _ _ (told c.before.before) (sym c.all_are.ensures ∙ c.if-all_are.true))
 
 refused-requires : tie.Need-refused-requires
 refused-requires c κs = search rules
 
-returns-2 : tie.Need-returns-2
+returns-2 : tie.Need-returns-in-Refused
 unfolding slices_of
-returns-2 c = sym (handed _ _ (sym c.before.before.before.admit.ensures ∙ c.before.admitted.given.1))
+returns-2 c = sym (handed _ _ (sym c.admit-admitted.ensures ∙ c.in-Refused.is))
 
-returns-3 : tie.Need-returns-3
+returns-3 : tie.Need-returns-else-all_are
 returns-3 c =
-    let tested = c.before.before in
-    c.refused.ensures ∙ sym (slices-lent _ _ _ _ (told tested.before) (sym tested.all_are.ensures ∙ c.before.if1.false))
+    c.refused.ensures ∙ sym (slices-lent _ _ _ _ (told c.before.before.before) (sym c.all_are.ensures ∙ c.if-all_are.false))
 
-pub admit-slices-spec : {M : Type 1} → statement M
-admit-slices-spec =
+pub admit_slices_spec : {M : Type 1} → statement M
+admit_slices_spec =
     tie.close
     (tie.spec
     admit-requires

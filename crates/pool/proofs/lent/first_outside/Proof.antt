@@ -12,47 +12,47 @@ use Rattle.pool.specs.Lengths.{outside}
 use Rattle.pool.proofs.lent.first_outside.Statement.{statement}
 use Rattle.pool.proofs.lent.first_outside.Tie as tie
 
-abbrev invariant-loop : tie.invariant-loop
-invariant-loop numbers bound place₀ place = (place ≤ length numbers) × NoneBelow (outside bound numbers) place
+abbrev invariant-loop-place : tie.invariant-loop-place
+invariant-loop-place numbers bound place₀ place = (place ≤ length numbers) × NoneBelow (outside bound numbers) place
 
-abbrev decreases-loop : tie.decreases-loop
-decreases-loop numbers bound place₀ place = length numbers - place
+abbrev decreases-loop-place : tie.decreases-loop-place
+decreases-loop-place numbers bound place₀ place = length numbers - place
 
-loop-holds : tie.Need-loop-init invariant-loop decreases-loop
+loop-holds : tie.Need-loop-place-init invariant-loop-place decreases-loop-place
 loop-holds c = (search rules, λ k h. absurd (omega arith))
 
-mul-if1 : tie.Need-overflow-mul-if1 invariant-loop decreases-loop
+mul-if1 : tie.Need-offset_bounds-numbers-place invariant-loop-place decreases-loop-place
 mul-if1 c = search rules
 
-shared-slice-read-if1 : tie.Need-shared-slice-read-if1 invariant-loop decreases-loop
+shared-slice-read-if1 : tie.Need-bounds-numbers-place invariant-loop-place decreases-loop-place
 shared-slice-read-if1 c = search rules
 
-cast-if1 : tie.Need-overflow-cast-if1 invariant-loop decreases-loop
-cast-if1 c = omega (arith, c.shared-slice-known.given c.before.before.loop.place)
+cast-if1 : tie.Need-overflow_cast-numbers invariant-loop-place decreases-loop-place
+cast-if1 c = omega (arith, c.shared_slice_known-1.given c.loop-place.place)
 
-returns : tie.Need-returns invariant-loop decreases-loop
-returns c = sym (first_hit _ _ _ c.before.before.before.loop.invariant.1 (omega arith) (le-leb _ _ c.if1.true))
+returns : tie.Need-returns-then-bound-numbers invariant-loop-place decreases-loop-place
+returns c = sym (first_hit _ _ _ c.loop-place.invariant.1 (omega arith) (le-leb _ _ c.if-bound-numbers.true))
 
-add-place : tie.Need-overflow-add-place invariant-loop decreases-loop
+add-place : tie.Need-overflow_add-place invariant-loop-place decreases-loop-place
 add-place c = search rules
 
-loop-less : tie.Need-loop-smaller invariant-loop decreases-loop
+loop-less : tie.Need-loop-place-smaller invariant-loop-place decreases-loop-place
 loop-less c = search rules
 
-loop-again : tie.Need-loop-preserved invariant-loop decreases-loop
-loop-again c = (search rules, below_more _ _ c.before.before.before.loop.invariant.1 (lt-leb _ _ c.if1.false))
+loop-again : tie.Need-loop-place-preserved invariant-loop-place decreases-loop-place
+loop-again c = (search rules, below_more _ _ c.loop-place.invariant.1 (lt-leb _ _ c.if-bound-numbers.false))
 
-returns-2 : tie.Need-returns-2 invariant-loop decreases-loop
+returns-2 : tie.Need-returns invariant-loop-place decreases-loop-place
 returns-2 c =
-    let e : c.before.loop.place ≡ length c.before.before.args.numbers.now = omega arith in
-    e ∙ sym (first-none _ _ (rw e at c.before.loop.invariant.1))
+    let e : c.loop-place.place ≡ length c.args.numbers.now = omega arith in
+    e ∙ sym (first-none _ _ (rw e at c.loop-place.invariant.1))
 
-pub first-outside-spec : {M : Type 1} → statement M
-first-outside-spec =
+pub first_outside_spec : {M : Type 1} → statement M
+first_outside_spec =
     tie.close
     (tie.spec
-    invariant-loop
-    decreases-loop
+    invariant-loop-place
+    decreases-loop-place
     loop-holds
     mul-if1
     shared-slice-read-if1

@@ -7,22 +7,22 @@ use borrow.Author.Rules.{rules}
 use Rattle.pool.proofs.pair.is_lower.Statement.{statement}
 use Rattle.pool.proofs.pair.is_lower.Tie as tie
 
-new-requires : tie.Need-new-requires
+new-requires : tie.Need-new-own-requires
 new-requires c κs = search rules
 
-new-requires-2 : tie.Need-new-requires-2
+new-requires-2 : tie.Need-new-bound-requires
 new-requires-2 c κs = search rules
 
-at-or-above-requires : tie.Need-at-or-above-requires
+at-or-above-requires : tie.Need-at_or_above-requires
 at-or-above-requires c κs = search rules
 
 returns : tie.Need-returns
 returns c =
-    let args = c.before.before.before.args in
-    let bound = c.before.new2.ensures in
-    let own = c.before.before.new.ensures in
-    let e : c.at-or-above.result ≡ pair_le args.other 0 args.level 0 = c.at-or-above.ensures ∙ rw (bound.0, bound.1, own.0, own.1) in
+    let args = c.args in
+    let bound = c.new-bound.ensures in
+    let own = c.new-own.ensures in
+    let e : c.at_or_above.result ≡ pair_le args.other 0 args.level 0 = c.at_or_above.ensures ∙ rw (bound.0, bound.1, own.0, own.1) in
     ap not e ∙ pair-zero-not args.other args.level 0
 
-pub is-lower-spec : {M : Type 1} → statement M
-is-lower-spec = tie.close (tie.spec new-requires new-requires-2 at-or-above-requires returns)
+pub is_lower_spec : {M : Type 1} → statement M
+is_lower_spec = tie.close (tie.spec new-requires new-requires-2 at-or-above-requires returns)
