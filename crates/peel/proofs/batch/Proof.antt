@@ -13,80 +13,78 @@ use Rattle.peel.proofs.batch.Statement.{statement}
 use Rattle.peel.proofs.batch.Tie as tie
 use borrow.Author.Rules.{rules}
 
-abbrev invariant-loop : tie.invariant-loop
-invariant-loop starts links head end k turn degree₀ level₀ layer₀ queue₀ tail₀ i₀ degree level layer queue tail i = (i ≤ end) × (end ≤ tail) × Long degree level layer queue × ((a : List ℕ) → Admitted starts links a → Peels (graph_of starts links) a degree₀ level₀ layer₀ k turn (slice head end queue₀) [] [] (vertices starts) end → Peels (graph_of starts links) a degree level layer k turn (slice i end queue) (slice end tail queue) [] (vertices starts) tail)
+abbrev invariant-loop-i : tie.invariant-loop-i
+invariant-loop-i starts links head end k turn degree₀ level₀ layer₀ queue₀ tail₀ i₀ degree level layer queue tail i = (i ≤ end) × (end ≤ tail) × Long degree level layer queue × ((a : List ℕ) → Admitted starts links a → Peels (graph_of starts links) a degree₀ level₀ layer₀ k turn (slice head end queue₀) [] [] (vertices starts) end → Peels (graph_of starts links) a degree level layer k turn (slice i end queue) (slice end tail queue) [] (vertices starts) tail)
 
-abbrev decreases-loop : tie.decreases-loop
-decreases-loop starts links head end k turn degree₀ level₀ layer₀ queue₀ tail₀ i₀ degree level layer queue tail i = end - i
+abbrev decreases-loop-i : tie.decreases-loop-i
+decreases-loop-i starts links head end k turn degree₀ level₀ layer₀ queue₀ tail₀ i₀ degree level layer queue tail i = end - i
 
 size : {s l a : List ℕ} → Admitted s l a → Sized (graph_of s l) a
 size h = (h.long, h.table.small)
 
 -- the place is within the queue, and a vertex stands there
-bounds : (c : tie.In-loop invariant-loop decreases-loop) → (c.before.before.before.before.args.end ≤ 1024) × (get_or c.before.loop.queue c.before.loop.i 0 < vertices c.before.before.before.before.args.starts.now) × (vertices c.before.before.before.before.args.starts.now ≤ 1024)
+bounds : (c : tie.In-loop-i invariant-loop-i decreases-loop-i) → (c.args.end ≤ 1024) × (get_or c.loop-i.queue c.loop-i.i 0 < vertices c.args.starts.now) × (vertices c.args.starts.now ≤ 1024)
 bounds c =
-    let r = c.before.before.before.before.requires.1.1 in
-    let inv = c.before.loop.invariant in
-    let b = remove-bounds (size r.admitted) inv.2 c.loop-test.true inv.1 (inv.3 _ r.admitted r.state) in
+    let r = c.requires.1.1 in
+    let inv = c.loop-i.invariant in
+    let b = remove-bounds (size r.admitted) inv.2 c.loop-i-test.true inv.1 (inv.3 _ r.admitted r.state) in
     (b.0, b.1, r.admitted.table.small)
 
-loop-holds : tie.Need-loop-init invariant-loop decreases-loop
+loop-holds : tie.Need-loop-i-init invariant-loop-i decreases-loop-i
 loop-holds c =
-    let p = c.before.before.requires in
-    let a = c.before.before.args in
+    let p = c.requires in
+    let a = c.args in
     (p.0.0, omega arith, p.1.0, λ bytes h P. rw (slice_empty a.end a.queue.now) P)
 
-mul-neighbors : tie.Need-overflow-mul-neighbors invariant-loop decreases-loop
-mul-neighbors c = omega (arith, bounds c, c.loop-test.true)
+mul-neighbors : tie.Need-offset_bounds-queue-i invariant-loop-i decreases-loop-i
+mul-neighbors c = omega (arith, bounds c, c.loop-i-test.true)
 
-element-copy-out-neighbors : tie.Need-element-copy-out-neighbors invariant-loop decreases-loop
-element-copy-out-neighbors c = omega (arith, bounds c, c.loop-test.true)
+element-copy-out-neighbors : tie.Need-bounds-queue-i invariant-loop-i decreases-loop-i
+element-copy-out-neighbors c = omega (arith, bounds c.before, c.loop-i-test.true)
 
-cast-neighbors : tie.Need-overflow-cast-neighbors invariant-loop decreases-loop
-cast-neighbors c = omega (arith, bounds c.before)
+cast-neighbors : tie.Need-overflow_cast-queue invariant-loop-i decreases-loop-i
+cast-neighbors c = omega (arith, bounds c.before.before)
 
-neighbors-requires : tie.Need-neighbors-requires invariant-loop decreases-loop
-neighbors-requires c κs = (c.before.before.before.before.before.requires.1.1.admitted.table.framed, (bounds c.before).1)
+neighbors-requires : tie.Need-neighbors-part-requires invariant-loop-i decreases-loop-i
+neighbors-requires c κs = (c.requires.1.1.admitted.table.framed, (bounds c.before.before).1)
 
-lower-requires : tie.Need-lower-requires invariant-loop decreases-loop
+lower-requires : tie.Need-lower-tail-requires invariant-loop-i decreases-loop-i
 lower-requires c κs =
-    let inside = c.before.before.before.before.before.before in
-    let p = inside.before.before.before.before.requires in
+    let p = c.requires in
     let r = p.1.1 in
-    let inv = inside.before.loop.invariant in
-    let can = remove_can (size r.admitted) inv.2 inside.loop-test.true inv.1 (inv.3 _ r.admitted r.state) in
-    (p.0.1, (inv.2, rw c.before.before.before.before.neighbors.ensures can))
+    let inv = c.loop-i.invariant in
+    let can = remove_can (size r.admitted) inv.2 c.loop-i-test.true inv.1 (inv.3 _ r.admitted r.state) in
+    (p.0.1, (inv.2, rw c.neighbors-part.ensures can))
 
-add-i : tie.Need-overflow-add-i invariant-loop decreases-loop
-add-i c = let inside = c.before.before.before.before.before.before.before in omega (arith, bounds inside, inside.loop-test.true)
+add-i : tie.Need-overflow_step-i invariant-loop-i decreases-loop-i
+add-i c = omega (arith, bounds c.before.before.before.before.before.before.before.before, c.loop-i-test.true)
 
-loop-less : tie.Need-loop-smaller invariant-loop decreases-loop
+loop-less : tie.Need-loop-i-smaller invariant-loop-i decreases-loop-i
 loop-less c = search rules
 
-loop-again : tie.Need-loop-preserved invariant-loop decreases-loop
+loop-again : tie.Need-loop-i-preserved invariant-loop-i decreases-loop-i
 loop-again c =
-    let inside = c.before.before.before.before.before.before.before in
-    let inv = inside.before.loop.invariant in
-    let struck = rw c.before.before.before.before.before.neighbors.ensures at c.lower.ensures in (
-      omega (arith, inside.loop-test.true),
-      omega (arith, inv.1, c.lower.ensures.grows),
-      c.lower.ensures.long,
-      λ a h P. remove (size h) inv.2 inside.loop-test.true inv.1 (inv.3 a h P) struck,
+    let inv = c.loop-i.invariant in
+    let struck = rw c.neighbors-part.ensures at c.lower-tail.ensures in (
+      omega (arith, c.loop-i-test.true),
+      omega (arith, inv.1, c.lower-tail.ensures.grows),
+      c.lower-tail.ensures.long,
+      λ a h P. remove (size h) inv.2 c.loop-i-test.true inv.1 (inv.3 a h P) struck,
     )
 
-returns : tie.Need-returns invariant-loop decreases-loop
+returns : tie.Need-returns invariant-loop-i decreases-loop-i
 returns c =
-    let loop = c.before.loop in
-    let end = c.before.before.before.before.args.end in
+    let loop = c.loop-i in
+    let end = c.args.end in
     let done : loop.i ≡ end = omega arith in
     record { moves = rw (done, slice_empty end loop.queue) at loop.invariant.3; grows = loop.invariant.1; long = loop.invariant.2 }
 
-pub batch-spec : {M : Type 1} → statement M
-batch-spec =
+pub batch_spec : {M : Type 1} → statement M
+batch_spec =
     tie.close
     (tie.spec
-    invariant-loop
-    decreases-loop
+    invariant-loop-i
+    decreases-loop-i
     loop-holds
     mul-neighbors
     element-copy-out-neighbors

@@ -10,50 +10,50 @@ use Rattle.peel.proofs.count_free.Statement.{statement}
 use Rattle.peel.proofs.count_free.Tie as tie
 use borrow.Author.Rules.{rules}
 
-abbrev invariant-loop : tie.invariant-loop
-invariant-loop anchored n count₀ v₀ count v = (v ≤ n) × (count ≤ v) × (count ≡ count_of (λ u. not (anchored_by anchored u)) (below v))
+abbrev invariant-loop-v : tie.invariant-loop-v
+invariant-loop-v anchored n count₀ v₀ count v = (v ≤ n) × (count ≤ v) × (count ≡ count_of (λ u. not (anchored_by anchored u)) (below v))
 
-abbrev decreases-loop : tie.decreases-loop
-decreases-loop anchored n count₀ v₀ count v = n - v
+abbrev decreases-loop-v : tie.decreases-loop-v
+decreases-loop-v anchored n count₀ v₀ count v = n - v
 
-loop-holds : tie.Need-loop-init invariant-loop decreases-loop
+loop-holds : tie.Need-loop-v-init invariant-loop-v decreases-loop-v
 loop-holds c = omega (arith, count-below-zero (λ u. not (anchored_by c.args.anchored.now u)))
 
-shared-slice-read-count : tie.Need-shared-slice-read-count invariant-loop decreases-loop
+shared-slice-read-count : tie.Need-bounds-anchored-v invariant-loop-v decreases-loop-v
 shared-slice-read-count c = search rules
 
-cast-count : tie.Need-overflow-cast-count invariant-loop decreases-loop
+cast-count : tie.Need-overflow_cast-count invariant-loop-v decreases-loop-v
 cast-count c = search rules
 
-add-count : tie.Need-overflow-add-count invariant-loop decreases-loop
+add-count : tie.Need-overflow_add-count invariant-loop-v decreases-loop-v
 add-count c =
-    let a = c.before.before.before.args.anchored.now in
-    let v = c.before.before.loop.v in
+    let a = c.args.anchored.now in
+    let v = c.loop-v.v in
     omega (arith, bit_le (not (anchored_by a v)))
 
-add-v : tie.Need-overflow-add-v invariant-loop decreases-loop
+add-v : tie.Need-overflow_step-v invariant-loop-v decreases-loop-v
 add-v c = search rules
 
-loop-less : tie.Need-loop-smaller invariant-loop decreases-loop
+loop-less : tie.Need-loop-v-smaller invariant-loop-v decreases-loop-v
 loop-less c = search rules
 
-loop-again : tie.Need-loop-preserved invariant-loop decreases-loop
+loop-again : tie.Need-loop-v-preserved invariant-loop-v decreases-loop-v
 loop-again c =
-    let a = c.before.before.before.args.anchored.now in
-    let v = c.before.before.loop.v in
+    let a = c.args.anchored.now in
+    let v = c.loop-v.v in
     omega (arith, bit_le (not (anchored_by a v)), count-below-more (λ u. not (anchored_by a u)) v)
 
-returns : tie.Need-returns invariant-loop decreases-loop
+returns : tie.Need-returns invariant-loop-v decreases-loop-v
 returns c =
-    let e : c.before.loop.v ≡ c.before.before.args.n = omega arith in
-    c.before.loop.invariant.2 ∙ ap (λ z. count_of (λ u. not (anchored_by c.before.before.args.anchored.now u)) (below z)) e
+    let e : c.loop-v.v ≡ c.args.n = omega arith in
+    c.loop-v.invariant.2 ∙ ap (λ z. count_of (λ u. not (anchored_by c.args.anchored.now u)) (below z)) e
 
-pub count-free-spec : {M : Type 1} → statement M
-count-free-spec =
+pub count_free_spec : {M : Type 1} → statement M
+count_free_spec =
     tie.close
     (tie.spec
-    invariant-loop
-    decreases-loop
+    invariant-loop-v
+    decreases-loop-v
     loop-holds
     shared-slice-read-count
     cast-count

@@ -10,55 +10,51 @@ use Rattle.peel.proofs.lower.Statement.{statement}
 use Rattle.peel.proofs.lower.Tie as tie
 use borrow.Author.Rules.{rules}
 
-abbrev invariant-loop : tie.invariant-loop
-invariant-loop part k turn degree₀ level₀ layer₀ queue₀ tail end₀ j₀ j-end degree level layer queue end j = (j ≤ length part) × (j-end ≡ length part) × Strikes degree₀ level₀ layer₀ queue₀ degree level layer queue k turn (take j part) tail end
+abbrev invariant-loop-j : tie.invariant-loop-j
+invariant-loop-j part k turn degree₀ level₀ layer₀ queue₀ tail end₀ j₀ j-end degree level layer queue end j = (j ≤ length part) × (j-end ≡ length part) × Strikes degree₀ level₀ layer₀ queue₀ degree level layer queue k turn (take j part) tail end
 
-abbrev decreases-loop : tie.decreases-loop
-decreases-loop part k turn degree₀ level₀ layer₀ queue₀ tail end₀ j₀ j-end degree level layer queue end j = length part - j
+abbrev decreases-loop-j : tie.decreases-loop-j
+decreases-loop-j part k turn degree₀ level₀ layer₀ queue₀ tail end₀ j₀ j-end degree level layer queue end j = length part - j
 
-loop-holds : tie.Need-loop-init invariant-loop decreases-loop
-loop-holds c = (search rules, search rules, strikes_none c.before.requires.1.0)
+loop-holds : tie.Need-loop-j-init invariant-loop-j decreases-loop-j
+loop-holds c = (search rules, search rules, strikes_none c.requires.1.0)
 
-mul-strike : tie.Need-overflow-mul-strike invariant-loop decreases-loop
+mul-strike : tie.Need-offset_bounds-part-j invariant-loop-j decreases-loop-j
 mul-strike c = search rules
 
-shared-slice-read-strike : tie.Need-shared-slice-read-strike invariant-loop decreases-loop
+shared-slice-read-strike : tie.Need-bounds-part-j invariant-loop-j decreases-loop-j
 shared-slice-read-strike c = search rules
 
-cast-strike : tie.Need-overflow-cast-strike invariant-loop decreases-loop
-cast-strike c = omega (arith, c.shared-slice-known2.given c.before.before.loop.j)
+cast-strike : tie.Need-overflow_cast-part invariant-loop-j decreases-loop-j
+cast-strike c = omega (arith, c.shared_slice_known-in-loop-j-1.given c.loop-j.j)
 
-strike-requires : tie.Need-strike-requires invariant-loop decreases-loop
+strike-requires : tie.Need-strike-end-requires invariant-loop-j decreases-loop-j
 strike-requires c κs =
-    let start = c.before.before.before.before.before.before.before.before in
-    let at = c.before.before.before.before.before.before in
-    let within : at.loop.j < length start.args.part.now = omega arith in
-    (start.requires.0, (at.loop.invariant.2.long, can_strike_next _ at.loop.invariant.2 within start.requires.1.1))
+    let within : c.loop-j.j < length c.args.part.now = omega arith in
+    (c.requires.0, (c.loop-j.invariant.2.long, can_strike_next _ c.loop-j.invariant.2 within c.requires.1.1))
 
-add-j : tie.Need-overflow-add-j invariant-loop decreases-loop
+add-j : tie.Need-overflow_step-j invariant-loop-j decreases-loop-j
 add-j c = search rules
 
-loop-less : tie.Need-loop-smaller invariant-loop decreases-loop
+loop-less : tie.Need-loop-j-smaller invariant-loop-j decreases-loop-j
 loop-less c = search rules
 
-loop-again : tie.Need-loop-preserved invariant-loop decreases-loop
+loop-again : tie.Need-loop-j-preserved invariant-loop-j decreases-loop-j
 loop-again c =
-    let start = c.before.before.before.before.before.before.before.before.before in
-    let at = c.before.before.before.before.before.before.before in
-    let within : at.loop.j < length start.args.part.now = omega arith in
-    (omega arith, at.loop.invariant.1, strikes_more _ at.loop.invariant.2 within c.strike.ensures)
+    let within : c.loop-j.j < length c.args.part.now = omega arith in
+    (omega arith, c.loop-j.invariant.1, strikes_more _ c.loop-j.invariant.2 within c.strike-end.ensures)
 
-returns : tie.Need-returns invariant-loop decreases-loop
+returns : tie.Need-returns invariant-loop-j decreases-loop-j
 returns c =
-    let all : length c.before.before.before.args.part.now ≤ c.before.loop.j = omega arith in
-    rw (take_all _ _ all) at c.before.loop.invariant.2
+    let all : length c.args.part.now ≤ c.loop-j.j = omega arith in
+    rw (take_all _ _ all) at c.loop-j.invariant.2
 
 pub lower_spec : {M : Type 1} → statement M
 lower_spec =
     tie.close
     (tie.spec
-    invariant-loop
-    decreases-loop
+    invariant-loop-j
+    decreases-loop-j
     loop-holds
     mul-strike
     shared-slice-read-strike

@@ -8,39 +8,35 @@ use Rattle.peel.proofs.seed.Statement.{statement}
 use Rattle.peel.proofs.seed.Tie as tie
 use borrow.Author.Rules.{rules}
 
-abbrev invariant-loop : tie.invariant-loop
-invariant-loop anchored n k degree level₀ layer₀ queue₀ tail end₀ v₀ level layer queue end v = (v ≤ n) × Looks anchored degree level₀ layer₀ queue₀ level layer queue k 0 v tail end
+abbrev invariant-loop-v : tie.invariant-loop-v
+invariant-loop-v anchored n k degree level₀ layer₀ queue₀ tail end₀ v₀ level layer queue end v = (v ≤ n) × Looks anchored degree level₀ layer₀ queue₀ level layer queue k 0 v tail end
 
-abbrev decreases-loop : tie.decreases-loop
-decreases-loop anchored n k degree level₀ layer₀ queue₀ tail end₀ v₀ level layer queue end v = n - v
+abbrev decreases-loop-v : tie.decreases-loop-v
+decreases-loop-v anchored n k degree level₀ layer₀ queue₀ tail end₀ v₀ level layer queue end v = n - v
 
-loop-holds : tie.Need-loop-init invariant-loop decreases-loop
-loop-holds c = (search rules, looks-none c.before.requires.0)
+loop-holds : tie.Need-loop-v-init invariant-loop-v decreases-loop-v
+loop-holds c = (search rules, looks-none c.requires.0)
 
-look-requires : tie.Need-look-requires invariant-loop decreases-loop
+look-requires : tie.Need-look-end-requires invariant-loop-v decreases-loop-v
 look-requires c κs =
-    let start = c.before.before.before.before.before.before in
-    let at = c.before.before.before.before in
-    (at.loop.invariant.1.long, can_look_next at.loop.invariant.1 start.args.n (omega arith) start.requires.1)
+    (c.loop-v.invariant.1.long, can_look_next c.loop-v.invariant.1 c.args.n (omega arith) c.requires.1)
 
-add-v : tie.Need-overflow-add-v invariant-loop decreases-loop
+add-v : tie.Need-overflow_step-v invariant-loop-v decreases-loop-v
 add-v c = search rules
 
-loop-less : tie.Need-loop-smaller invariant-loop decreases-loop
+loop-less : tie.Need-loop-v-smaller invariant-loop-v decreases-loop-v
 loop-less c = search rules
 
-loop-again : tie.Need-loop-preserved invariant-loop decreases-loop
+loop-again : tie.Need-loop-v-preserved invariant-loop-v decreases-loop-v
 loop-again c =
-    let start = c.before.before.before.before.before.before.before in
-    let at = c.before.before.before.before.before in
-    (omega arith, looks-more at.loop.invariant.1 {to = at.loop.v + 1} (omega arith) c.look.ensures)
+    (omega arith, looks-more c.loop-v.invariant.1 {to = c.loop-v.v + 1} (omega arith) c.look-end.ensures)
 
-returns : tie.Need-returns invariant-loop decreases-loop
+returns : tie.Need-returns invariant-loop-v decreases-loop-v
 returns c =
-    let all : c.before.loop.v ≡ c.before.before.before.args.n = omega arith in
-    rw all at c.before.loop.invariant.1
+    let all : c.loop-v.v ≡ c.args.n = omega arith in
+    rw all at c.loop-v.invariant.1
 
-pub seed-spec : {M : Type 1} → statement M
-seed-spec =
+pub seed_spec : {M : Type 1} → statement M
+seed_spec =
     tie.close
-    (tie.spec invariant-loop decreases-loop loop-holds look-requires add-v loop-less loop-again returns)
+    (tie.spec invariant-loop-v decreases-loop-v loop-holds look-requires add-v loop-less loop-again returns)

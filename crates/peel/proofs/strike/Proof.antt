@@ -14,54 +14,52 @@ use Rattle.peel.proofs.strike.Tie as tie
 below : (c : tie.Start) → (c.args.w < 1024) × (c.args.k < 65535)
 below c = struck-below c.requires.1.0 c.requires.1.1
 
-mul-d : tie.Need-overflow-mul-d
+mul-d : tie.Need-offset_bounds-degree-w
 mul-d c = omega (arith, below c)
 
-element-copy-out-d : tie.Need-element-copy-out-d
-element-copy-out-d c = omega (arith, below c)
+element-copy-out-d : tie.Need-bounds-degree-w
+element-copy-out-d c = omega (arith, below c.before)
 
-cast-degree : tie.Need-overflow-cast-degree
-cast-degree c = omega (arith, bit_le (ltb c.before.args.k (get_or c.before.args.degree.now c.before.args.w 0)))
+cast-degree : tie.Need-overflow_cast-degree
+cast-degree c = omega (arith, bit_le (ltb c.args.k (get_or c.args.degree.now c.args.w 0)))
 
-sub-degree : tie.Need-overflow-sub-degree
+sub-degree : tie.Need-overflow_sub-degree
 sub-degree c =
-    let k = c.before.args.k in
-    let d = get_or c.before.args.degree.now c.before.args.w 0 in
+    let k = c.args.k in
+    let d = get_or c.args.degree.now c.args.w 0 in
     split (ltb k d) (λ t. omega (arith, bit_yes (ltb k d) t, ltb→lt k d t)) (λ t. omega (arith, bit_no (ltb k d) t))
 
-mul-degree : tie.Need-overflow-mul-degree
-mul-degree c = omega (arith, below c.before)
+mul-degree : tie.Need-offset_bounds-degree-w-2
+mul-degree c = omega (arith, below c.before.before)
 
-element-write-degree : tie.Need-element-write-degree
-element-write-degree c = omega (arith, below c.before)
+element-write-degree : tie.Need-bounds-degree-w-2
+element-write-degree c = omega (arith, below c.before.before)
 
-add-if1 : tie.Need-overflow-add-if1
-add-if1 c = omega (arith, below c.before)
+add-if1 : tie.Need-overflow_add-k
+add-if1 c = omega (arith, below c.before.before)
 
-returns : tie.Need-returns
+returns : tie.Need-returns-then-d-k
 returns c =
-    let p = c.before.before.requires in
-    strikes_lower p.1.0 p.1.1 c.if1.true
+    let p = c.requires in
+    strikes_lower p.1.0 p.1.1 c.if-d-k.true
 
-add-settle : tie.Need-overflow-add-settle
-add-settle c = omega (arith, c.before.before.requires.0)
+add-settle : tie.Need-overflow_add-turn
+add-settle c = omega (arith, c.requires.0)
 
 settle-requires : tie.Need-settle-requires
 settle-requires c κs =
-    let start = c.before.before.before.before.before in
-    ((below start).0, struck-room start.requires.1.0 start.requires.1.1 c.before.before.before.if1.false)
+    ((below c.before.before.before.before.before.before).0, struck-room c.requires.1.0 c.requires.1.1 c.if-d-k.false)
 
-returns-2 : tie.Need-returns-2
+returns-2 : tie.Need-returns
 returns-2 c =
-    let start = c.before.before.before.before.before.before in
-    let a = start.args in
-    let p = start.requires in
+    let a = c.args in
+    let p = c.requires in
     let e = c.settle.ensures in
-    let next-layer : c.settle.new.1.1.1.1.0 ≡ set a.layer.now a.w (a.turn + 1) = e.1 in
-    rw (e.0, next-layer, e.2, e.3) (strikes_fall p.1.0 p.1.1 c.before.before.before.before.if1.false)
+    let next-layer : c.settle.new.layer ≡ set a.layer.now a.w (a.turn + 1) = e.1 in
+    rw (e.0, next-layer, e.2, e.3) (strikes_fall p.1.0 p.1.1 c.if-d-k.false)
 
-pub strike-spec : {M : Type 1} → statement M
-strike-spec =
+pub strike_spec : {M : Type 1} → statement M
+strike_spec =
     tie.close
     (tie.spec
     mul-d

@@ -6,35 +6,32 @@ use borrow.Author.Rules.{rules}
 use Rattle.edit.proofs.edge.drop.Statement.{statement}
 use Rattle.edit.proofs.edge.drop.Tie as tie
 
-cast-take : tie.Need-overflow-cast-take
-cast-take c = let pre = c.before.before.before.before.requires in omega (arith, pre.0.sound.small, pre.1.second)
+cast-take : tie.Need-overflow_cast-b
+cast-take c = let pre = c.requires in omega (arith, pre.0.sound.small, pre.1.second)
 
 take-requires : tie.Need-take-requires
-take-requires c κs = let pre = c.before.before.before.before.requires in first-take pre.0 pre.1 tt
+take-requires c κs = let pre = c.requires in first-take pre.0 pre.1 tt
 
-cast-take-2 : tie.Need-overflow-cast-take-2
+cast-take-2 : tie.Need-overflow_cast-a
 cast-take-2 c =
-    let pre = c.before.before.before.before.before.before.before.before.before.before.before.requires in
+    let pre = c.requires in
     omega (arith, pre.0.sound.small, pre.1.first)
 
 take-requires-2 : tie.Need-take-requires-2
 take-requires-2 c κs =
-    let at = c.before.before.before.before.before.before in
-    let pre = at.before.before.before.before.before.requires in
-    second-take pre.0 pre.1 tt at.take.ensures
+    let pre = c.requires in
+    second-take pre.0 pre.1 tt c.take.ensures
 
-same_length : tie.Need-same-length
+same_length : tie.Need-shape_of-starts
 same_length c = search rules
 
-same-length-2 : tie.Need-same-length-2
+same-length-2 : tie.Need-shape_of-links
 same-length-2 c = search rules
 
 returns : tie.Need-returns
 returns c =
-    let second = c.before.before.before.before in
-    let first = second.before.before.before.before.before.before.before in
-    let pre = first.before.before.before.before.before.requires in
-    dropped pre.0 pre.1 tt first.take.ensures second.take2.ensures
+    let pre = c.requires in
+    dropped pre.0 pre.1 tt c.take.ensures c.take-2.ensures
 
 pub drop_spec : {M : Type 1} → statement M
 drop_spec =

@@ -8,36 +8,34 @@ use Rattle.edit.proofs.edge.edit.Tie as tie
 
 add-requires : tie.Need-add-requires
 add-requires c κs =
-    let start = c.before.before.before.before.before in
-    let x = start.args in
-    (start.requires.0, subst (λ z. Editable (graph_of x.starts.now x.links.now) (edge_event z x.a x.b)) c.before.before.if1.true start.requires.1)
+    let x = c.args in
+    (c.requires.0, subst (λ z. Editable (graph_of x.starts.now x.links.now) (edge_event z x.a x.b)) c.if-adding.true c.requires.1)
 
-same_length : tie.Need-same-length
+same_length : tie.Need-shape_of-starts-then-adding
 same_length c = search rules
 
-same-length-2 : tie.Need-same-length-2
+same-length-2 : tie.Need-shape_of-links-then-adding
 same-length-2 c = search rules
 
-returns : tie.Need-returns
-returns c = rw c.before.before.before.before.before.before.before.if1.true c.before.before.before.before.add.ensures
+returns : tie.Need-returns-then-adding
+returns c = rw c.if-adding.true c.add.ensures
 
 drop-requires : tie.Need-drop-requires
 drop-requires c κs =
-    let start = c.before.before.before.before.before in
-    let x = start.args in
-    (start.requires.0, subst (λ z. Editable (graph_of x.starts.now x.links.now) (edge_event z x.a x.b)) c.before.before.if1.false start.requires.1)
+    let x = c.args in
+    (c.requires.0, subst (λ z. Editable (graph_of x.starts.now x.links.now) (edge_event z x.a x.b)) c.if-adding.false c.requires.1)
 
-same-length-3 : tie.Need-same-length-3
+same-length-3 : tie.Need-shape_of-starts
 same-length-3 c = search rules
 
-same-length-4 : tie.Need-same-length-4
+same-length-4 : tie.Need-shape_of-links
 same-length-4 c = search rules
 
-returns-2 : tie.Need-returns-2
-returns-2 c = rw c.before.before.before.before.before.before.before.if1.false c.before.before.before.before.drop.ensures
+returns-2 : tie.Need-returns
+returns-2 c = rw c.if-adding.false c.drop.ensures
 
-pub edit-spec : {M : Type 1} → statement M
-edit-spec =
+pub edit_spec : {M : Type 1} → statement M
+edit_spec =
     tie.close
     (tie.spec
     add-requires

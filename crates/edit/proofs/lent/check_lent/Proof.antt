@@ -12,81 +12,77 @@ use Rattle.edit.proofs.Checked.{links_decide}
 use Rattle.edit.proofs.lent.check_lent.Statement.{statement}
 use Rattle.edit.proofs.lent.check_lent.Tie as tie
 
-abbrev entry : tie.After-shared-slice-known3 → tie.Start
+abbrev entry : tie.After-shared_slice_known-3-1 → tie.Start
 entry c = c.before.before.before.before.before
 
 refused-requires : tie.Need-refused-requires
 refused-requires c κs = search rules
 
-returns : tie.Need-returns
+returns : tie.Need-returns-then-starts-eq0
 unfolding check_lent
-returns c = c.refused.ensures ∙ sym (simp (eq-eqb _ _ c.before.if1.true))
+returns c = c.refused.ensures ∙ sym (simp (eq-eqb _ _ c.if-starts-eq0.true))
 
-sub-n : tie.Need-overflow-sub-n
+sub-n : tie.Need-overflow_sub-n
 sub-n c = search rules
 
-refused-requires-2 : tie.Need-refused-requires-2
+refused-requires-2 : tie.Need-refused-requires-then-n-gt1024
 refused-requires-2 c κs = search rules
 
-returns-2 : tie.Need-returns-2
+returns-2 : tie.Need-returns-then-n-gt1024
 unfolding check_lent
 returns-2 c =
-    let s = c.before.before.before.before.before.args.starts.now in
-    c.refused2.ensures ∙ sym (simp (ne_eqb (length s) 0 c.before.before.if1.false, lt-ltb 1024 (vertices s) c.before.if2.true))
+    let s = c.args.starts.now in
+    c.refused-then-n-gt1024.ensures ∙ sym (simp (ne_eqb (length s) 0 c.if-starts-eq0.false, lt-ltb 1024 (vertices s) c.if-n-gt1024.true))
 
-mul-last : tie.Need-overflow-mul-last
+mul-last : tie.Need-offset_bounds-starts-n
 mul-last c = search rules
 
-shared-slice-read-last : tie.Need-shared-slice-read-last
+shared-slice-read-last : tie.Need-bounds-starts-n
 shared-slice-read-last c = search rules
 
-cast-last : tie.Need-overflow-cast-last
-cast-last c = omega (arith, c.shared-slice-known3.given (vertices (entry c).args.starts.now))
+cast-last : tie.Need-overflow_cast-last
+cast-last c = omega (arith, c.shared_slice_known-3-1.given (vertices (entry c).args.starts.now))
 
-refused-requires-3 : tie.Need-refused-requires-3
+refused-requires-3 : tie.Need-refused-requires-then-links-ne16384
 refused-requires-3 c κs = search rules
 
-returns-3 : tie.Need-returns-3
+returns-3 : tie.Need-returns-then-links-ne16384
 unfolding check_lent
 returns-3 c =
-    let at = c.before.before in
-    let s = (entry at).args.starts.now in
-    let l = (entry at).args.links.now in
-    c.refused3.ensures ∙ sym (simp (ne_eqb (length s) 0 at.before.before.if1.false, le-ltb 1024 (vertices s) at.before.if2.false, ne_eqb (length l) 16384 c.before.if3.true))
+    let s = (entry c.before.before).args.starts.now in
+    let l = (entry c.before.before).args.links.now in
+    c.refused-then-links-ne16384.ensures ∙ sym (simp (ne_eqb (length s) 0 c.if-starts-eq0.false, le-ltb 1024 (vertices s) c.if-n-gt1024.false, ne_eqb (length l) 16384 c.if-links-ne16384.true))
 
-refused-requires-4 : tie.Need-refused-requires-4
+refused-requires-4 : tie.Need-refused-requires-then-last-gt16384
 refused-requires-4 c κs = search rules
 
-returns-4 : tie.Need-returns-4
+returns-4 : tie.Need-returns-then-last-gt16384
 unfolding check_lent
 returns-4 c =
-    let at = c.before.before.before in
-    let s = (entry at).args.starts.now in
-    let l = (entry at).args.links.now in
-    c.refused4.ensures ∙ sym (simp (
-      ne_eqb (length s) 0 at.before.before.if1.false,
-      le-ltb 1024 (vertices s) at.before.if2.false,
-      eq-eqb (length l) 16384 c.before.before.if3.false,
-      lt-ltb 16384 (last_start s) c.before.if4.true,
+    let s = (entry c.before.before.before).args.starts.now in
+    let l = (entry c.before.before.before).args.links.now in
+    c.refused-then-last-gt16384.ensures ∙ sym (simp (
+      ne_eqb (length s) 0 c.if-starts-eq0.false,
+      le-ltb 1024 (vertices s) c.if-n-gt1024.false,
+      eq-eqb (length l) 16384 c.if-links-ne16384.false,
+      lt-ltb 16384 (last_start s) c.if-last-gt16384.true,
     ))
 
-slice-aggregate-test-table : tie.Need-slice-aggregate-test-table
+slice-aggregate-test-table : tie.Need-slice_bounds-test_table-end
 slice-aggregate-test-table c =
-    let x = (entry c.before.before.before).args in
+    let x = (entry c.before.before).args in
     sym (length-take-le (last_start x.starts.now) x.links.now (omega arith))
 
-test-table-requires : tie.Need-test-table-requires
+test-table-requires : tie.Need-test_table-requires
 test-table-requires c κs = search rules
 
-returns-5 : tie.Need-returns-5
+returns-5 : tie.Need-returns
 returns-5 c =
-    let tested = c.before.before in
-    let at = tested.before.before in
-    let x = (entry at).args in
-    c.test_table.ensures ∙ sym (links_decide x.starts.now x.links.now at.before.before.if1.false at.before.if2.false tested.before.if3.false tested.if4.false)
+    let x = (entry c.before.before.before).args in
+    c.test_table.ensures ∙ sym (links_decide x.starts.now x.links.now c.if-starts-eq0.false c.if-n-gt1024.false c.if-links-ne16384.false c.if-last-gt16384.false)
 
-pub check-lent-spec : {M : Type 1} → statement M
-check-lent-spec =
+pub check_lent_spec : {M : Type 1} → statement M
+check_lent_spec =
     tie.close
     (tie.spec
     refused-requires

@@ -9,32 +9,30 @@ use borrow.Author.Rules.{rules}
 use Rattle.edit.proofs.link.find.Statement.{statement}
 use Rattle.edit.proofs.link.find.Tie as tie
 
-neighbors-requires : tie.Need-neighbors-requires
+neighbors-requires : tie.Need-neighbors-part-requires
 neighbors-requires c κs = search rules
 
-mul-from : tie.Need-overflow-mul-from
+mul-from : tie.Need-offset_bounds-starts-v
 mul-from c = search rules
 
-shared-slice-read-from : tie.Need-shared-slice-read-from
+shared-slice-read-from : tie.Need-bounds-starts-v
 shared-slice-read-from c = search rules
 
-cast-from : tie.Need-overflow-cast-from
-cast-from c = let at = c.before.before.before.before in omega (arith, starts-few at.requires.0 at.args.v)
+cast-from : tie.Need-overflow_cast-from
+cast-from c = omega (arith, starts-few c.requires.0 c.args.v)
 
 place-requires : tie.Need-place-requires
 place-requires c κs = search rules
 
-add-result : tie.Need-overflow-add-result
+add-result : tie.Need-overflow_add-result
 add-result c =
-    let at = c.before.before.before.before.before in
-    let e = c.place.ensures ∙ ap (λ z. place_of z at.args.w) c.before.before.neighbors.ensures in
-    let r = place-within at.requires.0 at.args.v at.args.w at.requires.1 in
-    omega (arith, e, r.0, starts-few at.requires.0 (at.args.v + 1))
+    let e = c.place.ensures ∙ ap (λ z. place_of z c.args.w) c.neighbors-part.ensures in
+    let r = place-within c.requires.0 c.args.v c.args.w c.requires.1 in
+    omega (arith, e, r.0, starts-few c.requires.0 (c.args.v + 1))
 
 returns : tie.Need-returns
 returns c =
-    let at = c.before.before.before.before.before in
-    ap (λ (z : ℕ). get_or at.args.starts.now at.args.v 0 + z) (c.place.ensures ∙ ap (λ z. place_of z at.args.w) c.before.before.neighbors.ensures)
+    ap (λ (z : ℕ). get_or c.args.starts.now c.args.v 0 + z) (c.place.ensures ∙ ap (λ z. place_of z c.args.w) c.neighbors-part.ensures)
 
 pub find_spec : {M : Type 1} → statement M
 find_spec =

@@ -7,43 +7,40 @@ use borrow.Author.Rules.{rules}
 use Rattle.edit.proofs.link.put.Statement.{statement}
 use Rattle.edit.proofs.link.put.Tie as tie
 
-find-requires : tie.Need-find-requires
+find-requires : tie.Need-find-p-requires
 find-requires c κs = search rules
 
-sub-last : tie.Need-overflow-sub-last
+sub-last : tie.Need-overflow_sub-last
 sub-last c = search rules
 
-mul-last : tie.Need-overflow-mul-last
+mul-last : tie.Need-offset_bounds-starts-starts
 mul-last c = search rules
 
-slice-read-last : tie.Need-slice-read-last
+slice-read-last : tie.Need-bounds-starts-starts
 slice-read-last c = search rules
 
-cast-last : tie.Need-overflow-cast-last
-cast-last c = let at = c.before.before.before.before.before.before in omega (arith, starts-few at.requires.0 (length at.args.starts.now - 1))
+cast-last : tie.Need-overflow_cast-last
+cast-last c = omega (arith, starts-few c.requires.0 (length c.args.starts.now - 1))
 
 raise-requires : tie.Need-raise-requires
 raise-requires c κs =
-    let at = c.before.before.before.before.before.before.before in
-    (omega (arith, at.requires.1.0), λ i. omega (arith, starts-few at.requires.0 i))
+    (omega (arith, c.requires.1.0), λ i. omega (arith, starts-few c.requires.0 i))
 
 open-requires : tie.Need-open-requires
 open-requires c κs =
-    let at = c.before.before.before.before.before.before.before.before.before.before.before in
-    let r = place-within at.requires.0 at.args.v at.args.w at.requires.1.0 in
-    (omega (arith, c.before.before.before.before.before.before.find.ensures, r.0, r.1), (at.requires.1.1.0, at.requires.0.zeros))
+    let r = place-within c.requires.0 c.args.v c.args.w c.requires.1.0 in
+    (omega (arith, c.find-p.ensures, r.0, r.1), (c.requires.1.1.0, c.requires.0.zeros))
 
-same_length : tie.Need-same-length
+same_length : tie.Need-shape_of-starts
 same_length c = search rules
 
-same-length-2 : tie.Need-same-length-2
+same-length-2 : tie.Need-shape_of-links
 same-length-2 c = search rules
 
 returns : tie.Need-returns
 returns c =
-    let at = c.before.before.before.before.before.before.before.before.before.before.before.before.before.before in
-    let e = c.before.before.before.before.before.before.before.before.before.find.ensures in
-    put_table at.requires.0 at.args.v at.args.w at.requires.1.0 at.requires.1.1.0 at.requires.1.1.1 c.before.before.before.before.before.before.raise.ensures (rw e at c.before.before.«open».ensures)
+    let e = c.find-p.ensures in
+    put_table c.requires.0 c.args.v c.args.w c.requires.1.0 c.requires.1.1.0 c.requires.1.1.1 c.raise.ensures (rw e at c.«open».ensures)
 
 pub put_spec : {M : Type 1} → statement M
 put_spec =

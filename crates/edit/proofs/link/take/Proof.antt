@@ -8,45 +8,42 @@ use borrow.Author.Rules.{rules}
 use Rattle.edit.proofs.link.take.Statement.{statement}
 use Rattle.edit.proofs.link.take.Tie as tie
 
-find-requires : tie.Need-find-requires
+find-requires : tie.Need-find-p-requires
 find-requires c κs = search rules
 
-sub-last : tie.Need-overflow-sub-last
+sub-last : tie.Need-overflow_sub-last
 sub-last c = search rules
 
-mul-last : tie.Need-overflow-mul-last
+mul-last : tie.Need-offset_bounds-starts-starts
 mul-last c = search rules
 
-slice-read-last : tie.Need-slice-read-last
+slice-read-last : tie.Need-bounds-starts-starts
 slice-read-last c = search rules
 
-cast-last : tie.Need-overflow-cast-last
-cast-last c = let at = c.before.before.before.before.before.before in omega (arith, starts-few at.requires.0 (length at.args.starts.now - 1))
+cast-last : tie.Need-overflow_cast-last
+cast-last c = omega (arith, starts-few c.requires.0 (length c.args.starts.now - 1))
 
 lower-requires : tie.Need-lower-requires
 lower-requires c κs =
-    let at = c.before.before.before.before.before.before.before in
-    (omega (arith, at.requires.1.0), starts-positive at.requires.0 at.args.v at.args.w at.requires.1.0 at.requires.1.1.0 at.requires.1.1.1)
+    (omega (arith, c.requires.1.0), starts-positive c.requires.0 c.args.v c.args.w c.requires.1.0 c.requires.1.1.0 c.requires.1.1.1)
 
 close-requires : tie.Need-close-requires
 close-requires c κs =
-    let at = c.before.before.before.before.before.before.before.before.before.before.before in
-    let s = at.args.starts.now in
-    let r = place-within at.requires.0 at.args.v at.args.w at.requires.1.0 in
-    let inside = place_inside at.requires.0 at.args.v at.args.w at.requires.1.0 at.requires.1.1.0 at.requires.1.1.1 in
-    (omega (arith, c.before.before.before.before.before.before.find.ensures, r.1, inside), (at.requires.0.framed.within (vertices s) (omega arith), at.requires.0.zeros))
+    let s = c.args.starts.now in
+    let r = place-within c.requires.0 c.args.v c.args.w c.requires.1.0 in
+    let inside = place_inside c.requires.0 c.args.v c.args.w c.requires.1.0 c.requires.1.1.0 c.requires.1.1.1 in
+    (omega (arith, c.find-p.ensures, r.1, inside), (c.requires.0.framed.within (vertices s) (omega arith), c.requires.0.zeros))
 
-same_length : tie.Need-same-length
+same_length : tie.Need-shape_of-starts
 same_length c = search rules
 
-same-length-2 : tie.Need-same-length-2
+same-length-2 : tie.Need-shape_of-links
 same-length-2 c = search rules
 
 returns : tie.Need-returns
 returns c =
-    let at = c.before.before.before.before.before.before.before.before.before.before.before.before.before.before in
-    let e = c.before.before.before.before.before.before.before.before.before.find.ensures in
-    taken_table at.requires.0 at.args.v at.args.w at.requires.1.0 at.requires.1.1.0 at.requires.1.1.1 c.before.before.before.before.before.before.lower.ensures (rw e at c.before.before.close.ensures)
+    let e = c.find-p.ensures in
+    taken_table c.requires.0 c.args.v c.args.w c.requires.1.0 c.requires.1.1.0 c.requires.1.1.1 c.lower.ensures (rw e at c.close.ensures)
 
 pub take_spec : {M : Type 1} → statement M
 take_spec =
