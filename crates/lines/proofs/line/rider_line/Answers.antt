@@ -14,7 +14,7 @@ pub returns-then-rider-v : goal.returns-then-rider-v
 returns-then-rider-v c =
     let done =
     rider_other c.args.text.now c.args.from.at c.args.number c.args.v c.args.before c.args.links.now c.in-Value.rider c.in-Value.first
-    (sym c.take_form.ensures ∙ c.in-Value.is) c.if-rider-v.true in
+    (sym c.take_form.ensures ∙ c.in-Value.is) (omega arith) in
     record { value = done.0; links_value = done.1 }
 
 pub take_neighbors-requires : goal.take_neighbors-requires
@@ -26,7 +26,7 @@ pub returns-in_default-take_neighbors : goal.returns-in_default-take_neighbors
 returns-in_default-take_neighbors c =
     let done =
     rider_no_list c.args.text.now c.args.from.at c.args.number c.args.v c.args.before c.args.links.now c.take_neighbors.new.links c.in-Value.rider c.in-Value.first
-    (sym c.take_form.ensures ∙ c.in-Value.is) c.if-rider-v.false c.take_neighbors.ensures.links_value
+    (sym c.take_form.ensures ∙ c.in-Value.is) (omega arith) c.take_neighbors.ensures.links_value
     (sym c.take_neighbors.ensures.value ∙ c.in_default-take_neighbors.is) in
     record { value = done.0; links_value = done.1 }
 
@@ -34,7 +34,7 @@ pub returns-in_default-skip : goal.returns-in_default-skip
 returns-in_default-skip c =
     let done =
     rider_no_tail c.args.text.now c.args.from.at c.args.number c.args.v c.args.before c.args.links.now c.take_neighbors.new.links c.in-Value.rider c.in-Value.first
-    (sym c.take_form.ensures ∙ c.in-Value.is) c.if-rider-v.false c.take_neighbors.ensures.links_value
+    (sym c.take_form.ensures ∙ c.in-Value.is) (omega arith) c.take_neighbors.ensures.links_value
     c.in-Ends.count c.in-Ends.last (sym c.take_neighbors.ensures.value ∙ c.in-Ends.is) (sym c.skip.ensures ∙ c.in_default-skip.is) in
     record { value = done.0; links_value = done.1 }
 
@@ -42,6 +42,6 @@ pub returns : goal.returns
 returns c =
     let done =
     rider_whole c.args.text.now c.args.from.at c.args.number c.args.v c.args.before c.args.links.now c.take_neighbors.new.links c.in-Value.rider c.in-Value.first
-    (sym c.take_form.ensures ∙ c.in-Value.is) c.if-rider-v.false c.take_neighbors.ensures.links_value
+    (sym c.take_form.ensures ∙ c.in-Value.is) (omega arith) c.take_neighbors.ensures.links_value
     c.in-Ends.count c.in-Ends.last c.in-To.next (sym c.take_neighbors.ensures.value ∙ c.in-Ends.is) (sym c.skip.ensures ∙ c.in-To.is) in
     record { value = done.0; links_value = done.1 }
