@@ -1,4 +1,7 @@
 // What the planner's text says, or the line that departs from its form (refusal 18).
+
+#![tactic(auto)]
+
 mod read; // the whole text
 
 pub use lines::list::NONE;
