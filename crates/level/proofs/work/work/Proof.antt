@@ -45,13 +45,13 @@ returns c =
     (sym (handed _ _ refused), sym (handed _ _ refused), sym (handed _ _ refused), sym (handed _ _ refused))
 
 same_length : tie.Need-shape_of-levels
-same_length c = (called c).write_sheet.auto.1.1.1.0
+same_length c = (called c).write_sheet.auto.levels
 
 same-length-2 : tie.Need-shape_of-layers
-same-length-2 c = (called c).write_sheet.auto.1.1.1.1.0
+same-length-2 c = (called c).write_sheet.auto.layers
 
 same-length-3 : tie.Need-shape_of-components
-same-length-3 c = (called c).write_sheet.auto.1.1.1.1.1.0
+same-length-3 c = (called c).write_sheet.auto.components
 
 returns-2 : tie.Need-returns-in-Passed
 returns-2 c =

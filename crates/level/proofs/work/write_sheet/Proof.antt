@@ -31,24 +31,23 @@ copy-requires-3 c κs =
     omega (arith, small c.before.before.before.before.before.before.before.before.before.before.before.before, (entry c.before.before.before.before.before.before.before.before.before.before.before.before).requires.1.1.1)
 
 same_length : tie.Need-shape_of-levels
-same_length c = (first-copy c).copy.auto.1.0
+same_length c = (first-copy c).copy.auto.to
 
 same-length-2 : tie.Need-shape_of-layers
-same-length-2 c = c.copy-2.auto.1.0
+same-length-2 c = c.copy-2.auto.to
 
 same-length-3 : tie.Need-shape_of-components
-same-length-3 c = c.copy-3.auto.1.0
+same-length-3 c = c.copy-3.auto.to
 
 returns : tie.Need-returns
 returns c =
     let filled = (first-copy c).before.before.before in
     let pre = (entry filled).requires in
-    let last = filled.fill.last.1.1.1 in
     let holds = filled.fill.ensures in (
-      copied _ last.0 pre.1.0 holds.0 (first-copy c).copy.ensures,
+      copied _ filled.fill.new.level pre.1.0 holds.0 (first-copy c).copy.ensures,
       (
-        copied _ last.1.0 pre.1.1.0 holds.1.0 c.copy-2.ensures,
-        copied _ last.1.1.0 pre.1.1.1 holds.1.1 c.copy-3.ensures,
+        copied _ filled.fill.new.layer pre.1.1.0 holds.1.0 c.copy-2.ensures,
+        copied _ filled.fill.new.component pre.1.1.1 holds.1.1 c.copy-3.ensures,
       ),
     )
 

@@ -3,7 +3,7 @@ use mathlib.Core.Path.{◌≡◌}
 use mathlib.Core.Bool.{true, false}
 use mathlib.Core.Logic.{⊎_elim}
 use lib.Dec.{leb, ltb}
-use borrow.Author.Tests.{lt-ltb, le-ltb}
+use borrow.Author.Tests.{lt-ltb, le-ltb, le-leb, lt-leb}
 use Rattle.level_sheet.proofs.check.counted_fault.Statement.{statement}
 use Rattle.level_sheet.proofs.check.counted_fault.Tie as tie
 
@@ -27,16 +27,16 @@ returns-2 c =
 returns-3 : tie.Need-returns-then-support-k-2
 returns-3 c =
     let args = c.args in
-    let late : leb args.support.before args.level ≡ true = c.if-support-k-2.true in
+    let late : leb args.support.before args.level ≡ true = le-leb _ _ c.if-support-k-2.true in
     simp (enough c.before.before.before, few c.before.before.before, lt-ltb 1 args.layer c.if-layer-gt1.true, late)
 
 returns-4 : tie.Need-returns
 returns-4 c =
     let args = c.args in
     ⊎_elim
-    (λ w. let many : leb args.support.before args.level ≡ false = w.2.left in simp (enough c.before, few c.before, lt-ltb 1 args.layer w.0.taken, many))
-    (λ w. simp (enough c.before, few c.before, le-ltb 1 args.layer w.left))
-    c.if-layer-gt1.branch-raw
+    (λ w. let many : leb args.support.before args.level ≡ false = lt-leb _ _ w.if-support-k-2.false in simp (enough c.before, few c.before, lt-ltb 1 args.layer w.if-layer-gt1.true, many))
+    (λ w. simp (enough c.before, few c.before, le-ltb 1 args.layer w.if-layer-gt1.false))
+    c.else-layer-gt1.branch-raw
 
 pub counted_fault_spec : {M : Type 1} → statement M
 counted_fault_spec = tie.close (tie.spec returns returns-2 returns-3 returns-4)

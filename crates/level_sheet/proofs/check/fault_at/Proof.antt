@@ -6,7 +6,7 @@ use Prim.Native.Nat.{ℕ, ◌-◌}
 use native.Mathlib.Omega.{arith}
 use lib.ListN.{get_or}
 use lib.Dec.{leb, ltb}
-use borrow.Author.Tests.{eqb-false}
+use borrow.Author.Tests.{eqb-false, eq-eqb, ne_eqb}
 use borrow.Author.Rules.{rules}
 use Rattle.finite.specs.Count.{count, In}
 use Rattle.table.specs.Table.{neighbors}
@@ -50,7 +50,7 @@ record Counts (G : Graph) (A : ℕ → Bool) (lev lay : ℕ → ℕ) (v level pa
 
 -- they decide
 counted : (G : Graph) (A : ℕ → Bool) (lev lay : ℕ → ℕ) (v level pair before : ℕ) → Counts G A lev lay v level pair before → fault_at G A lev lay v ≡ cond (ltb level (lev v)) 19 (cond (ltb (lev v) pair) 20 (cond (ltb 1 (lay v) && leb before (lev v)) 21 65535))
-counted G A lev lay v level pair before counts = free-fault G A lev lay v counts.placed counts.free ∙ rw (counts.in_level, counts.in_pair, counts.in_before)
+counted G A lev lay v level pair before counts = free-fault G A lev lay v counts.placed counts.free ∙ rw (counts.in-level, counts.in_pair, counts.in-before)
 
 -- ---- the code's facts in those words
 
@@ -88,7 +88,7 @@ counts c =
     let new = c.new.ensures in
     let totals = c.count_support-support.ensures in record {
       placed = told c.before.before.before.before.before ∙ c.if-is_misplaced.false;
-      c.before.before.before = c.if-is_anchored.false;
+      free = ne_eqb _ _ c.if-is_anchored.false;
       in-level = count-is stands _ _ _ _ _ _ near new.0 refl _ totals.0;
       in_pair = count-is stands _ _ _ _ _ _ near new.0 new.1 _ totals.1.0;
       in-before = count-is stands _ _ _ _ _ _ near new.0 (ap (λ l. l - 1) new.1) _ totals.1.1;
@@ -116,7 +116,7 @@ returns : tie.Need-returns-then-is_misplaced
 returns c = sym (out-of-place _ _ _ _ _ (told c.before ∙ c.if-is_misplaced.true))
 
 returns-2 : tie.Need-returns-then-is_anchored
-returns-2 c = sym (anchored-fits _ _ _ _ _ (told c.before.before ∙ c.if-is_misplaced.false) c.if-is_anchored.true)
+returns-2 c = sym (anchored-fits _ _ _ _ _ (told c.before.before ∙ c.if-is_misplaced.false) (eq-eqb _ _ c.if-is_anchored.true))
 
 neighbors-requires : tie.Need-neighbors-requires
 neighbors-requires c κs = search rules
@@ -127,7 +127,7 @@ new-requires c κs = search rules
 count-support-requires : tie.Need-count_support-support-requires
 count-support-requires c κs =
     let new = c.new.ensures in
-    let layer = free-layer _ _ _ _ _ (told c.before.before.before.before ∙ c.if-is_misplaced.false) c.if-is_anchored.false in (
+    let layer = free-layer _ _ _ _ _ (told c.before.before.before.before ∙ c.if-is_misplaced.false) (ne_eqb _ _ c.if-is_anchored.false) in (
       rw c.neighbors.ensures (rows (entry c.before.before.before.before)),
       omega arith,
     )
