@@ -2,13 +2,13 @@
 ghost use Rattle.std.specs.Prelude.{◌≡◌, not, ◌<◌, length, get_or, ltb};
 ghost use Rattle.finite.specs.Pairs.{pair_le};
 
-#[derive(Drop)]
+#[derive(Clone, Copy)]
 pub struct Level(pub u16);
 
-#[derive(Drop)]
+#[derive(Clone, Copy)]
 pub struct Layer(pub u16);
 
-#[derive(Drop)]
+#[derive(Clone, Copy)]
 pub struct Pair {
     pub level: Level,
     pub layer: Layer,

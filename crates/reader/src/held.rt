@@ -1,6 +1,5 @@
 // The text and a position in it: every number and every other byte is read through this struct.
-// The borrow checker covers no function that takes or makes a struct with a reference in it, so each of those here is
-// proved by a walk of its code by hand. Callers use `take_number` and `byte_at`, whose plain parameters spare them that.
+// Callers use `take_number` and `byte_at`, whose parameters are plain: the text, and a place in it.
 ghost use Rattle.std.specs.Prelude.{◌≡◌, get_or};
 ghost use Rattle.reader.specs.Number.{number_at};
 

@@ -1,4 +1,5 @@
 // Reading from a text: a number taken off its front, constant bytes, and the form that has one number between them.
+
 #![tactic(auto)]
 
 pub mod number; // a number taken off the front of the text

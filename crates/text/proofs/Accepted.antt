@@ -1,4 +1,4 @@
--- The texts that are read whole are exactly those that document 01's form spells for a well_formed content. Assumes nothing.
+-- The texts that are read whole are exactly those that document 01's form spells for a well-formed content. Assumes nothing.
 use mathlib.Core.Path.{◌≡◌, refl, sym, ap, ◌∙◌, subst}
 use mathlib.Core.Logic.{◌↔◌, inl, inr, ⊎_elim}
 use mathlib.Core.List.{List, [], ◌∷◌, ◌++◌, flatten, append_assoc, append-nil}
@@ -121,7 +121,7 @@ spell_parts c =
     ap (λ (l : List ℕ). riders_line (length c.lists) ++ l)
     (flatten_append (rider_lines 0 c.lists) (retained_line c.retained ∷ rounds_line c.rounds ∷ []) ∙ rw (append-nil (rounds_line c.rounds)))
 
--- a text is the spelling of a well_formed content, which has the summary
+-- a text is the spelling of a well-formed content, which has the summary
 pub record Spells (c : Content) (t : List ℕ) (s : Summary) : Type 0 where
   pub well_formed : WellFormed c
   pub text : t ≡ spell c
@@ -138,7 +138,7 @@ content_read t n first rest s h k =
     ∙ ap (λ (r : Numbers). record { lists = (rider_lines_at n t first.at).lists; retained = r.values; rounds = s.rounds }) kept
     )
 
--- a text that is read whole is the spelling of its content, which is well_formed and has the summary answered
+-- a text that is read whole is the spelling of its content, which is well-formed and has the summary answered
 pub accepted : (t : List ℕ) (s : Summary) → reading_of t ≡ Reading.Read s → Spells (content_of t s) t s
 accepted t s e =
     let w = whole_parts t s e in
@@ -209,7 +209,7 @@ rider_lines_spelled t (l ∷ ls) m v p rest e h k =
     let last : v + 1 + length ls ≡ v + suc (length ls) = omega arith in
     (j.0, rw (suc-add (length ls) m, i.1, ← last) (ap (more_lists l) j.1), j.2)
 
--- ---- the theorem, the other way: the spelling of a well_formed content is read whole, as that content
+-- ---- the theorem, the other way: the spelling of a well-formed content is read whole, as that content
 
 module _ (c : Content) (w : WellFormed c) (t : List ℕ) (e : t ≡ spell c) where
   abbrev n : ℕ
@@ -246,11 +246,11 @@ module _ (c : Content) (w : WellFormed c) (t : List ℕ) (e : t ≡ spell c) whe
       sym (content_read t n read_first.0 read-lines.0 (summary_of c) read_first.1 (ap (λ (r : Lists). r.next) read-lines.1))
       ∙ rw (read-lines.1, read-retained.1)
 
--- the spelling of a well_formed content is read whole: the answer is its summary, and what is read is that content
+-- the spelling of a well-formed content is read whole: the answer is its summary, and what is read is that content
 pub read_back : (c : Content) → WellFormed c → (reading_of (spell c) ≡ Reading.Read (summary_of c)) × (content_of (spell c) (summary_of c) ≡ c)
 read_back c w = (read_whole c w (spell c) refl, read_content c w (spell c) refl)
 
--- exactly the spellings of well_formed contents are read whole
+-- exactly the spellings of well-formed contents are read whole
 pub accepted_iff : (t : List ℕ) (s : Summary) → (reading_of t ≡ Reading.Read s) ↔ ((c : Content) × Spells c t s)
 accepted_iff t s = (λ e. (content_of t s, accepted t s e), λ b. rw (b.1.text, b.1.summary) (read_back b.0 b.1.well_formed).0)
 

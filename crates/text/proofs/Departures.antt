@@ -1,6 +1,6 @@
--- A text that departs at line k begins with k - 1 lines of a well_formed text, and with no more. Assumes nothing.
+-- A text that departs at line k begins with k - 1 lines of a well-formed text, and with no more. Assumes nothing.
 use mathlib.Core.Path.{◌≡◌, refl, sym, ap, ◌∙◌, subst}
-use mathlib.Core.Logic.{◌⊎◌, inl, ⊎_elim}
+use mathlib.Core.Logic.{inl, ⊎_elim}
 use mathlib.Core.Bool.{Bool, true, false}
 use mathlib.Core.List.{List, [], ◌∷◌, ◌++◌, flatten, append_assoc, append-nil}
 use Prim.Native.Nat.{ℕ, zero, suc, ◌+◌, ◌-◌, ◌≤◌, ◌<◌}
@@ -27,7 +27,7 @@ use Rattle.text.specs.declared.read.Reading.{Reading}
 use Rattle.text.proofs.Texts.{Outcome, no_riders, no_rider, no_retained, no_rounds, extra, whole, outcome}
 use Rattle.text.proofs.Accepted.{Small, riders_text, rider_text, rider_lines_text, retained_text, rounds_text, before, riders_spelled, rider_lines_spelled, retained_spelled, rounds_spelled}
 
--- the text begins with the first j lines of a well_formed text
+-- the text begins with the first j lines of a well-formed text
 pub record Begins (t : List ℕ) (j : ℕ) : Type 0 where
   pub content : Content
   pub well_formed : WellFormed content
@@ -207,7 +207,7 @@ module _ (t : List ℕ) (n : ℕ) (first : Cursor) (h : riders_at t 0 ≡ Number
           (begins_behind t (record { lists = ls; retained = vs; rounds = rounds }) (record { riders = small.0; links = small.1; retained = kept.1; rounds = ended.1; ascending = kept.2 }) 2 (omega arith) (drop end.at t)
           (opened ∙ ap (λ (r : List ℕ). riders_line (length ls) ++ (flatten (rider_lines 0 ls) ++ r)) both))
 
--- a text that departs at line k begins with k - 1 lines of a well_formed text
+-- a text that departs at line k begins with k - 1 lines of a well-formed text
 pub departs_begins : (t : List ℕ) (k : ℕ) → reading_of t ≡ Reading.Departs k → (0 < k) × Begins t (k - 1)
 departs_begins t k e = go (outcome t)
   where
@@ -340,7 +340,7 @@ module _ (t : List ℕ) (c : Content) (w : WellFormed c) where
         go (extra m first lines last rounds end h l x y o q) = let s : m ≡ n = cc r.opened in let z : k ≡ m + 4 = cc in omega arith
         go (whole m first lines last rounds end h l x y o q) = absurd (let z : ◌≡◌ {A = ℕ} 0 1 = cc in omega arith)
 
--- a text that departs at line k begins with less than k lines of any well_formed text
+-- a text that departs at line k begins with less than k lines of any well-formed text
 pub departs_ends : (t : List ℕ) (j k : ℕ) → reading_of t ≡ Reading.Departs k → Begins t j → j < k
 departs_ends t zero k e b = (departs_begins t k e).0
 departs_ends t (suc i) k e b = go (leb i n) refl

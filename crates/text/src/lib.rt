@@ -1,4 +1,5 @@
 // What the planner's text says, or the line that departs from its form (refusal 18).
+
 #![tactic(auto)]
 
 mod read; // the whole text

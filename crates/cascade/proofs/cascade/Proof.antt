@@ -11,63 +11,62 @@ use borrow.Author.Rules.{rules}
 use Rattle.cascade.proofs.cascade.Statement.{statement}
 use Rattle.cascade.proofs.cascade.Tie as tie
 
-abbrev invariant-loop : tie.invariant-loop
-invariant-loop starts links anchored levels x support₀ fallen₀ end₀ head₀ support fallen end head = (head ≤ end) × Falling starts links anchored levels x (withdrawn fallen head []) support fallen end
+abbrev invariant-loop-head : tie.invariant-loop-head
+invariant-loop-head starts links anchored levels x support₀ fallen₀ end₀ head₀ support fallen end head = (head ≤ end) × Falling starts links anchored levels x (withdrawn fallen head []) support fallen end
 
-abbrev decreases-loop : tie.decreases-loop
-decreases-loop starts links anchored levels x support₀ fallen₀ end₀ head₀ support fallen end head = vertices starts - head
+abbrev decreases-loop-head : tie.decreases-loop-head
+decreases-loop-head starts links anchored levels x support₀ fallen₀ end₀ head₀ support fallen end head = vertices starts - head
 
-abbrev entry : tie.After-support invariant-loop decreases-loop → tie.Start invariant-loop decreases-loop
+abbrev entry : tie.After-support-1 invariant-loop-head decreases-loop-head → tie.Start invariant-loop-head decreases-loop-head
 entry c = c.before.before.before.before.before
 
 -- the list fits
-within : (c : tie.At-loop invariant-loop decreases-loop) → c.loop.end ≤ vertices (entry c.before).args.starts.now
+within : (c : tie.At-loop-head invariant-loop-head decreases-loop-head) → c.loop-head.end ≤ vertices (entry c.before).args.starts.now
 within c =
     let start = entry c.before in
-    list-within start.pre.0 start.args.x c.loop.invariant.1
+    list-within start.requires.0 start.args.x c.loop-head.invariant.1
 
-cast-fallen : tie.Need-overflow-cast-fallen invariant-loop decreases-loop
-cast-fallen c = let start = entry c in omega (arith, start.pre.1, start.pre.0.admitted.table.small)
+cast-fallen : tie.Need-overflow_cast-fallen invariant-loop-head decreases-loop-head
+cast-fallen c = let start = entry c in omega (arith, start.requires.1, start.requires.0.admitted.table.small)
 
-array-write-fallen : tie.Need-array-write-fallen invariant-loop decreases-loop
+array-write-fallen : tie.Need-bounds-fallen-0 invariant-loop-head decreases-loop-head
 array-write-fallen c = search rules
 
-loop-holds : tie.Need-loop-init invariant-loop decreases-loop
+loop-holds : tie.Need-loop-head-init invariant-loop-head decreases-loop-head
 loop-holds c =
     let start = entry c in
-    (omega arith, falling-first start.pre.0 start.args.x 1024 start.pre.0.admitted.table.small start.pre.1)
+    (omega arith, falling-first start.requires.0 start.args.x 1024 start.requires.0.admitted.table.small start.requires.1)
 
-withdraw-requires : tie.Need-withdraw-requires invariant-loop decreases-loop
+withdraw-requires : tie.Need-withdraw-end-requires invariant-loop-head decreases-loop-head
 withdraw-requires c κs =
-    let in-loop = c.before.before in
-    ((entry in-loop.before.before).pre.0, (in-loop.loop-test.true, in-loop.before.loop.invariant.1))
+    ((entry c.before.before.before.before).requires.0, (c.loop-head-test.true, c.loop-head.invariant.1))
 
-add-head : tie.Need-overflow-add-head invariant-loop decreases-loop
-add-head c = let at = c.before.before.before.before in omega (arith, within at, (entry at.before).pre.0.admitted.table.small)
+add-head : tie.Need-overflow_add-head invariant-loop-head decreases-loop-head
+add-head c = omega (arith, within c.before.before.before.before, (entry c.before.before.before.before.before).requires.0.admitted.table.small)
 
-loop-less : tie.Need-loop-smaller invariant-loop decreases-loop
+loop-less : tie.Need-loop-head-smaller invariant-loop-head decreases-loop-head
 loop-less c = omega (arith, within c.before.before.before.before)
 
-loop-again : tie.Need-loop-preserved invariant-loop decreases-loop
-loop-again c = (omega (arith, c.withdraw.ensures.1), c.withdraw.ensures.0)
+loop-again : tie.Need-loop-head-preserved invariant-loop-head decreases-loop-head
+loop-again c = (omega (arith, c.withdraw-end.ensures.1), c.withdraw-end.ensures.0)
 
-returns : tie.Need-returns invariant-loop decreases-loop
+returns : tie.Need-returns invariant-loop-head decreases-loop-head
 returns c =
-    let at = c.before.loop in
+    let at = c.loop-head in
     let start = entry c.before.before in
     let args = start.args in
-    let all : at.head ≡ at.end = omega (arith, at.invariant.0, c.loop-test.false) in (
-      kept-tells start.pre.0 args.x
+    let all : at.head ≡ at.end = omega (arith, at.invariant.0, c.loop-head-test.false) in (
+      kept-tells start.requires.0 args.x
           (subst (λ head. Falling args.starts.now args.links.now args.anchored.now args.levels.now args.x (withdrawn at.fallen head []) at.support at.fallen at.end) all at.invariant.1),
       at.invariant.1.touched,
     )
 
-pub cascade-spec : {M : Type 1} → statement M
-cascade-spec =
+pub cascade_spec : {M : Type 1} → statement M
+cascade_spec =
     tie.close
     (tie.spec
-    invariant-loop
-    decreases-loop
+    invariant-loop-head
+    decreases-loop-head
     cast-fallen
     array-write-fallen
     loop-holds

@@ -13,14 +13,14 @@ use borrow.Author.Rules.{rules}
 use Rattle.cascade.proofs.relies.Statement.{statement}
 use Rattle.cascade.proofs.relies.Tie as tie
 
-abbrev entry : tie.After-is-higher → tie.Start
-entry c = c.before.before.before.before.before.before.before.before.before
+abbrev entry : tie.After-is_higher → tie.Start
+entry c = c.before.before.before.before.before.before.before.before.before.before
 
 -- u is of no lower level exactly where w is not higher
-stands : (c : tie.After-is-higher) → let args = (entry c).args in upholds args.levels.now args.w args.u ≡ not c.is-higher.result
+stands : (c : tie.After-is_higher) → let args = (entry c).args in upholds args.levels.now args.w args.u ≡ not c.is_higher.result
 stands c =
     let args = (entry c).args in
-    sym (ap not c.is-higher.ensures ∙ not-ltb (get_or args.levels.now args.w 0) (get_or args.levels.now args.u 0))
+    sym (ap not c.is_higher.ensures ∙ not-ltb (get_or args.levels.now args.w 0) (get_or args.levels.now args.u 0))
 
 -- past all tests the two levels decide
 last : (levels a support : List ℕ) (x u w : ℕ) → fell levels support w ≡ false → anchored_by a w ≡ false → eqb x w ≡ false → upholds levels w u ≡ true → eqb x u ≡ false
@@ -28,71 +28,64 @@ last : (levels a support : List ℕ) (x u w : ℕ) → fell levels support w ≡
 unfolding relies_of
 last levels a support x u w e₀ e₁ e₂ e₃ e₄ = sym (rw (e₀, e₁, e₂, e₃, e₄))
 
-mul-if1 : tie.Need-overflow-mul-if1
+mul-if1 : tie.Need-offset_bounds-support-w
 mul-if1 c = search rules
 
-element-copy-out-if1 : tie.Need-element-copy-out-if1
+element-copy-out-if1 : tie.Need-bounds-support-w
 element-copy-out-if1 c = search rules
 
-mul-if1-2 : tie.Need-overflow-mul-if1-2
+mul-if1-2 : tie.Need-offset_bounds-levels-w
 mul-if1-2 c = search rules
 
-shared-slice-read-if1 : tie.Need-shared-slice-read-if1
+shared-slice-read-if1 : tie.Need-bounds-levels-w
 shared-slice-read-if1 c = search rules
 
-returns : tie.Need-returns
+returns : tie.Need-returns-then-support-w
 unfolding relies_of
-returns c = simp (lt-ltb _ _ c.if1.true)
+returns c = simp (lt-ltb _ _ c.if-support-w.true)
 
-shared-slice-read-if2 : tie.Need-shared-slice-read-if2
+shared-slice-read-if2 : tie.Need-bounds-anchored-w
 shared-slice-read-if2 c = search rules
 
-returns-2 : tie.Need-returns-2
+returns-2 : tie.Need-returns-then-anchored-w-eq1
 unfolding relies_of
-returns-2 c = simp (le-ltb _ _ c.before.before.if1.false, eq-eqb _ _ c.if2.true)
+returns-2 c = simp (le-ltb _ _ c.if-support-w.false, eq-eqb _ _ c.if-anchored-w-eq1.true)
 
-returns-3 : tie.Need-returns-3
+returns-3 : tie.Need-returns-then-x-w
 unfolding relies_of
-returns-3 c = simp (le-ltb _ _ c.before.before.before.if1.false, ne_eqb _ _ c.before.if2.false, eq-eqb _ _ c.if3.true)
+returns-3 c = simp (le-ltb _ _ c.if-support-w.false, ne_eqb _ _ c.if-anchored-w-eq1.false, eq-eqb _ _ c.if-x-w.true)
 
-is-higher-requires : tie.Need-is-higher-requires
+is-higher-requires : tie.Need-is_higher-requires
 is-higher-requires c κs = search rules
 
-returns-4 : tie.Need-returns-4
+returns-4 : tie.Need-returns-then-is_higher
 unfolding relies_of
 returns-4 c =
-    let at = c.before in
-    let free = at.before.before in
-    simp (le-ltb _ _ free.before.before.if1.false, ne_eqb _ _ free.if2.false, ne_eqb _ _ at.before.if3.false, stands at, c.if4.true)
+    simp (le-ltb _ _ c.if-support-w.false, ne_eqb _ _ c.if-anchored-w-eq1.false, ne_eqb _ _ c.if-x-w.false, stands c.before, c.if-is_higher.true)
 
-returns-5 : tie.Need-returns-5
+returns-5 : tie.Need-returns-then-x-u
 unfolding relies_of
 returns-5 c =
-    let at = c.before.before in
-    let free = at.before.before in
-    simp (le-ltb _ _ free.before.before.if1.false, ne_eqb _ _ free.if2.false, ne_eqb _ _ at.before.if3.false, stands at, c.before.if4.false, eq-eqb _ _ c.if5.true)
+    simp (le-ltb _ _ c.if-support-w.false, ne_eqb _ _ c.if-anchored-w-eq1.false, ne_eqb _ _ c.if-x-w.false, stands c.before.before, c.if-is_higher.false, eq-eqb _ _ c.if-x-u.true)
 
-mul-result : tie.Need-overflow-mul-result
+mul-result : tie.Need-offset_bounds-levels-u
 mul-result c = search rules
 
-shared-slice-read-result : tie.Need-shared-slice-read-result
+shared-slice-read-result : tie.Need-bounds-levels-u
 shared-slice-read-result c = search rules
 
-mul-result-2 : tie.Need-overflow-mul-result-2
+mul-result-2 : tie.Need-offset_bounds-levels-w-2
 mul-result-2 c = search rules
 
-shared-slice-read-result-2 : tie.Need-shared-slice-read-result-2
+shared-slice-read-result-2 : tie.Need-bounds-levels-w-2
 shared-slice-read-result-2 c = search rules
 
-returns-6 : tie.Need-returns-6
+returns-6 : tie.Need-returns
 returns-6 c =
-    let other = c.before.before in
-    let at = other.before.before in
-    let free = at.before.before in
-    last _ _ _ _ _ _ (le-ltb _ _ free.before.before.if1.false) (ne_eqb _ _ free.if2.false) (ne_eqb _ _ at.before.if3.false) (stands at ∙ ap not other.before.if4.false) (ne_eqb _ _ other.if5.false)
+    last _ _ _ _ _ _ (le-ltb _ _ c.if-support-w.false) (ne_eqb _ _ c.if-anchored-w-eq1.false) (ne_eqb _ _ c.if-x-w.false) (stands c.before.before.before.before ∙ ap not c.if-is_higher.false) (ne_eqb _ _ c.if-x-u.false)
 
-pub relies-spec : {M : Type 1} → statement M
-relies-spec =
+pub relies_spec : {M : Type 1} → statement M
+relies_spec =
     tie.close
     (tie.spec
     mul-if1

@@ -4,8 +4,9 @@ use mathlib.Core.Logic.{⊎_elim}
 use Prim.Native.Nat.{ℕ, ◌-◌, ◌≤◌}
 use native.Mathlib.Omega.{arith}
 use lib.ListN.{replicate, get_or-replicate, length-replicate}
+use borrow.Author.Tests.{ne_eqb}
 use borrow.Author.Rules.{rules}
-use Rattle.finite.proofs.Tests.{of_true, of_false}
+use Rattle.finite.proofs.Tests.{of_false, eqb_of}
 use Rattle.table.specs.Table.{vertices}
 use Rattle.pool.specs.Arrays.{Holds}
 use Rattle.flood.specs.Flooding.{blank, Floods}
@@ -14,28 +15,28 @@ use Rattle.flood.proofs.Flooding.{begin, pass, finish, pends_begin}
 use Rattle.flood.proofs.flood.Statement.{statement}
 use Rattle.flood.proofs.flood.Tie as tie
 
-abbrev invariant-loop : tie.invariant-loop
-invariant-loop starts links anchored level component₀ n pending₀ queue₀ tail₀ start₀ component pending queue tail start = (start ≤ vertices starts) × Floods starts links anchored pending component queue start tail tail
+abbrev invariant-loop-start : tie.invariant-loop-start
+invariant-loop-start starts links anchored level component₀ n pending₀ queue₀ tail₀ start₀ component pending queue tail start = (start ≤ vertices starts) × Floods starts links anchored pending component queue start tail tail
 
-abbrev decreases-loop : tie.decreases-loop
-decreases-loop starts links anchored level component₀ n pending₀ queue₀ tail₀ start₀ component pending queue tail start = vertices starts - start
+abbrev decreases-loop-start : tie.decreases-loop-start
+decreases-loop-start starts links anchored level component₀ n pending₀ queue₀ tail₀ start₀ component pending queue tail start = vertices starts - start
 
-sub-n : tie.Need-overflow-sub-n invariant-loop decreases-loop
+sub-n : tie.Need-overflow_sub-n invariant-loop-start decreases-loop-start
 sub-n c = search rules
 
-pend-requires : tie.Need-pend-requires invariant-loop decreases-loop
+pend-requires : tie.Need-pend-requires invariant-loop-start decreases-loop-start
 pend-requires c κs =
-    let given = c.before.before.before.before.before.before.requires in
+    let given = c.requires in
     let long = length-replicate {A = ℕ} 1024 0 in
     omega (arith, given.long, given.admitted.table.small)
 
-loop-holds : tie.Need-loop-init invariant-loop decreases-loop
+loop-holds : tie.Need-loop-start-init invariant-loop-start decreases-loop-start
 loop-holds c =
-    let given = c.before.before.before.before.before.before.before.requires in
+    let given = c.requires in
     let table = given.admitted.table in
     let labels = length-replicate {A = ℕ} 1024 65535 in
     let queue = length-replicate {A = ℕ} 1024 0 in
-    let none : Holds (replicate 1024 65535) (vertices c.before.before.before.before.before.before.before.args.starts.now) (λ v. 65535) = λ v b. get_or-replicate {A = ℕ} 1024 v 65535 0 (omega (arith, table.small)) in
+    let none : Holds (replicate 1024 65535) (vertices c.args.starts.now) (λ v. 65535) = λ v b. get_or-replicate {A = ℕ} 1024 v 65535 0 (omega (arith, table.small)) in
     let pending = c.pend.ensures in (
       omega arith,
       record {
@@ -45,64 +46,58 @@ loop-holds c =
       },
     )
 
-shared-slice-read-if1 : tie.Need-shared-slice-read-if1 invariant-loop decreases-loop
+shared-slice-read-if1 : tie.Need-bounds-anchored-start invariant-loop-start decreases-loop-start
 shared-slice-read-if1 c =
-    let given = c.before.before.before.before.before.before.before.before.before.before.requires in
-    omega (arith, given.admitted.long, c.before.loop-test.true)
+    let given = c.requires in
+    omega (arith, given.admitted.long, c.loop-start-test.true)
 
-mul-if2 : tie.Need-overflow-mul-if2 invariant-loop decreases-loop
+mul-if2 : tie.Need-offset_bounds-component-start invariant-loop-start decreases-loop-start
 mul-if2 c = search rules
 
-element-copy-out-if2 : tie.Need-element-copy-out-if2 invariant-loop decreases-loop
+element-copy-out-if2 : tie.Need-bounds-component-start invariant-loop-start decreases-loop-start
 element-copy-out-if2 c = search rules
 
-spread-requires : tie.Need-spread-requires invariant-loop decreases-loop
+spread-requires : tie.Need-spread-tail-requires invariant-loop-start decreases-loop-start
 spread-requires c κs =
-    let at = c.before.before.before.before.before.before.before.before in
-    let start = at.before.before.before.before.before.before.before.before in
     record {
-      bytes = start.args.anchored.now;
-      floods = at.loop.invariant.1;
-      free = byte_free start.args.anchored.now at.loop.start c.before.before.before.before.before.if1.true;
+      bytes = c.args.anchored.now;
+      floods = c.loop-start.invariant.1;
+      free = byte_free c.args.anchored.now c.loop-start.start c.if-anchored-start-eq0.true;
       vertex = omega arith;
-      none = of_true _ c.before.before.before.if2.true;
+      none = eqb_of _ _ c.if-component-start.true;
     }
 
-add_start : tie.Need-overflow-add-start invariant-loop decreases-loop
+add_start : tie.Need-overflow_add-start invariant-loop-start decreases-loop-start
 add_start c = search rules
 
-loop-less : tie.Need-loop-smaller invariant-loop decreases-loop
+loop-less : tie.Need-loop-start-smaller invariant-loop-start decreases-loop-start
 loop-less c = search rules
 
-loop-again : tie.Need-loop-preserved invariant-loop decreases-loop
+loop-again : tie.Need-loop-start-preserved invariant-loop-start decreases-loop-start
 loop-again c =
-    let at = c.before.before.before in
-    let start = at.before.before.before.before.before.before.before.before in
-    let admitted = start.requires.admitted in
-    let floods = at.loop.invariant.1 in
+    let admitted = c.requires.admitted in
+    let floods = c.loop-start.invariant.1 in
     ⊎_elim
-    (λ way. rw (way.7, way.8, way.9, way.10) (omega arith, way.6.ensures.moves _ floods (byte_free start.args.anchored.now at.loop.start way.0.taken)))
+    (λ way. rw (way.component-is, way.pending-is, way.queue-is, way.tail-is) (omega arith, way.spread-tail.ensures.moves _ floods (byte_free c.args.anchored.now c.loop-start.start way.if-anchored-start-eq0.true)))
     (λ way.
     let reason = ⊎_elim
-    (λ side. λ free. of_false (blank at.loop.component at.loop.start) side.2.left)
-    (λ side. λ free. absurd (side.left (free_byte admitted at.loop.start (omega arith) free)))
-    way.0.came in
-    rw (way.1, way.2, way.3, way.4) (omega arith, record { admitted = admitted; flooding = pass floods.flooding reason; pends = floods.pends }))
-    c.if1.branch
+    (λ side. λ free. of_false (blank c.loop-start.component c.loop-start.start) (ne_eqb _ _ side.if-component-start.false))
+    (λ side. λ free. absurd (side.if-anchored-start-eq0.false (free_byte admitted c.loop-start.start (omega arith) free)))
+    way.else-anchored-start-eq0.branch-raw in
+    rw (way.component-is, way.pending-is, way.queue-is, way.tail-is) (omega arith, record { admitted = admitted; flooding = pass floods.flooding reason; pends = floods.pends }))
+    c.if-anchored-start-eq0.branch-raw
 
-returns : tie.Need-returns invariant-loop decreases-loop
+returns : tie.Need-returns invariant-loop-start decreases-loop-start
 returns c =
-    let at = c.before in
-    let start = at.before.before.before.before.before.before.before.before in
-    let done : at.loop.start ≡ vertices start.args.starts.now = omega arith in
-    finish (simple start.requires.admitted.table) (rw done at at.loop.invariant.1).flooding
+    let done : c.loop-start.start ≡ vertices c.args.starts.now = omega arith in
+    finish (simple c.requires.admitted.table) (rw done at c.loop-start.invariant.1).flooding
 
-pub flood-spec : {M : Type 1} → statement M
-flood-spec =
+pub flood_spec : {M : Type 1} → statement M
+flood_spec =
     tie.close
     (tie.spec
-    invariant-loop
-    decreases-loop
+    invariant-loop-start
+    decreases-loop-start
     sub-n
     pend-requires
     loop-holds

@@ -9,52 +9,51 @@ use Rattle.flood.proofs.pend.Statement.{statement}
 use Rattle.flood.proofs.pend.Tie as tie
 use borrow.Author.Rules.{rules}
 
-abbrev invariant-loop : tie.invariant-loop
-invariant-loop level n pending₀ v₀ pending v = (v ≤ n) × (length pending ≡ 1024) × Holds pending v (λ u. get_or level u 0)
+abbrev invariant-loop-v : tie.invariant-loop-v
+invariant-loop-v level n pending₀ v₀ pending v = (v ≤ n) × (length pending ≡ 1024) × Holds pending v (λ u. get_or level u 0)
 
-abbrev decreases-loop : tie.decreases-loop
-decreases-loop level n pending₀ v₀ pending v = n - v
+abbrev decreases-loop-v : tie.decreases-loop-v
+decreases-loop-v level n pending₀ v₀ pending v = n - v
 
-loop-holds : tie.Need-loop-init invariant-loop decreases-loop
+loop-holds : tie.Need-loop-v-init invariant-loop-v decreases-loop-v
 loop-holds c = (omega arith, c.requires.2, holds-none c.args.pending.now (λ u. get_or c.args.level.now u 0))
 
-mul-pending : tie.Need-overflow-mul-pending invariant-loop decreases-loop
+mul-pending : tie.Need-offset_bounds-level-v invariant-loop-v decreases-loop-v
 mul-pending c = search rules
 
-shared-slice-read-pending : tie.Need-shared-slice-read-pending invariant-loop decreases-loop
+shared-slice-read-pending : tie.Need-bounds-level-v invariant-loop-v decreases-loop-v
 shared-slice-read-pending c = search rules
 
-mul-pending-2 : tie.Need-overflow-mul-pending-2 invariant-loop decreases-loop
+mul-pending-2 : tie.Need-offset_bounds-pending-v invariant-loop-v decreases-loop-v
 mul-pending-2 c = search rules
 
-element-write-pending : tie.Need-element-write-pending invariant-loop decreases-loop
+element-write-pending : tie.Need-bounds-pending-v invariant-loop-v decreases-loop-v
 element-write-pending c = search rules
 
-add-v : tie.Need-overflow-add-v invariant-loop decreases-loop
+add-v : tie.Need-overflow_step-v invariant-loop-v decreases-loop-v
 add-v c = search rules
 
-loop-less : tie.Need-loop-smaller invariant-loop decreases-loop
+loop-less : tie.Need-loop-v-smaller invariant-loop-v decreases-loop-v
 loop-less c = search rules
 
-loop-again : tie.Need-loop-preserved invariant-loop decreases-loop
+loop-again : tie.Need-loop-v-preserved invariant-loop-v decreases-loop-v
 loop-again c =
-    let start = c.before.before.before in
-    let loop = c.before.before.loop in
-    let within : loop.v < length loop.pending = omega (arith, start.requires, loop.invariant.1) in
-    (omega arith, simp length-set loop.invariant.1, holds_more loop.pending (λ u. get_or start.args.level.now u 0) loop.v within loop.invariant.2)
+    let loop = c.loop-v in
+    let within : loop.v < length loop.pending = omega (arith, c.requires, loop.invariant.1) in
+    (omega arith, simp length-set loop.invariant.1, holds_more loop.pending (λ u. get_or c.args.level.now u 0) loop.v within loop.invariant.2)
 
-returns : tie.Need-returns invariant-loop decreases-loop
+returns : tie.Need-returns invariant-loop-v decreases-loop-v
 returns c =
-    let loop = c.before.loop in
-    let all : loop.v ≡ c.before.before.args.n = omega arith in
+    let loop = c.loop-v in
+    let all : loop.v ≡ c.args.n = omega arith in
     (loop.invariant.1, rw all at loop.invariant.2)
 
-pub pend-spec : {M : Type 1} → statement M
-pend-spec =
+pub pend_spec : {M : Type 1} → statement M
+pend_spec =
     tie.close
     (tie.spec
-    invariant-loop
-    decreases-loop
+    invariant-loop-v
+    decreases-loop-v
     loop-holds
     mul-pending
     shared-slice-read-pending

@@ -9,111 +9,104 @@ use Rattle.flood.proofs.Flooding.{room, Spread, spread_seed, spread_visit, sprea
 use Rattle.flood.proofs.spread.Statement.{statement}
 use Rattle.flood.proofs.spread.Tie as tie
 
-abbrev invariant-loop : tie.invariant-loop
-invariant-loop starts links pending₀ component₀ queue₀ start tail k head₀ end₀ pending component queue head end = (a : List ℕ) → Spread starts links a pending₀ component₀ queue₀ k start head₀ end₀ → Spread starts links a pending component queue k start head end
+abbrev invariant-loop-head : tie.invariant-loop-head
+invariant-loop-head starts links pending₀ component₀ queue₀ start tail k head₀ end₀ pending component queue head end = (a : List ℕ) → Spread starts links a pending₀ component₀ queue₀ k start head₀ end₀ → Spread starts links a pending component queue k start head end
 
-abbrev decreases-loop : tie.decreases-loop
-decreases-loop starts links pending₀ component₀ queue₀ start tail k head₀ end₀ pending component queue head end = vertices starts - head
+abbrev decreases-loop-head : tie.decreases-loop-head
+decreases-loop-head starts links pending₀ component₀ queue₀ start tail k head₀ end₀ pending component queue head end = vertices starts - head
 
 -- the start has a place in the arrays, and in the queue
-place : (c : tie.Start invariant-loop decreases-loop) → (c.args.start < 1024) × (c.args.tail < 1024)
+place : (c : tie.Start invariant-loop-head decreases-loop-head) → (c.args.start < 1024) × (c.args.tail < 1024)
 place c =
     let p = c.requires in
     omega (arith, room p.floods.flooding.queued c.args.start p.vertex p.none, p.vertex, p.floods.admitted.table.small)
 
 -- the flood begins
 begun :
-    (c : tie.Start invariant-loop decreases-loop) →
+    (c : tie.Start invariant-loop-head decreases-loop-head) →
     let a = c.args in
     Spread a.starts.now a.links.now c.requires.bytes (set a.pending.now a.start 65535) (set a.component.now a.start a.start) (set a.queue.now a.tail a.start) (get_or a.pending.now a.start 0) a.start a.tail (a.tail + 1)
 begun c = let p = c.requires in spread_seed p.floods p.free p.vertex p.none
 
-mul-k : tie.Need-overflow-mul-k invariant-loop decreases-loop
+mul-k : tie.Need-offset_bounds-pending-start invariant-loop-head decreases-loop-head
 mul-k c = omega (arith, place c.before.before)
 
-element-copy-out-k : tie.Need-element-copy-out-k invariant-loop decreases-loop
-element-copy-out-k c = omega (arith, place c.before.before)
+element-copy-out-k : tie.Need-bounds-pending-start invariant-loop-head decreases-loop-head
+element-copy-out-k c = omega (arith, place c.before.before.before)
 
-mul-pending : tie.Need-overflow-mul-pending invariant-loop decreases-loop
-mul-pending c = omega (arith, place c.before.before.before)
+mul-pending : tie.Need-offset_bounds-pending-start-2 invariant-loop-head decreases-loop-head
+mul-pending c = omega (arith, place c.before.before.before.before)
 
-element-write-pending : tie.Need-element-write-pending invariant-loop decreases-loop
-element-write-pending c = omega (arith, place c.before.before.before)
+element-write-pending : tie.Need-bounds-pending-start-2 invariant-loop-head decreases-loop-head
+element-write-pending c = omega (arith, place c.before.before.before.before)
 
-cast-component : tie.Need-overflow-cast-component invariant-loop decreases-loop
-cast-component c = omega (arith, place c.before.before.before)
+cast-component : tie.Need-overflow_cast-component invariant-loop-head decreases-loop-head
+cast-component c = omega (arith, place c.before.before.before.before)
 
-mul-component : tie.Need-overflow-mul-component invariant-loop decreases-loop
-mul-component c = omega (arith, place c.before.before.before)
+mul-component : tie.Need-offset_bounds-component-start invariant-loop-head decreases-loop-head
+mul-component c = omega (arith, place c.before.before.before.before)
 
-element-write-component : tie.Need-element-write-component invariant-loop decreases-loop
-element-write-component c = omega (arith, place c.before.before.before)
+element-write-component : tie.Need-bounds-component-start invariant-loop-head decreases-loop-head
+element-write-component c = omega (arith, place c.before.before.before.before.before)
 
-cast-queue : tie.Need-overflow-cast-queue invariant-loop decreases-loop
-cast-queue c = omega (arith, place c.before.before.before)
+cast-queue : tie.Need-overflow_cast-queue invariant-loop-head decreases-loop-head
+cast-queue c = omega (arith, place c.before.before.before.before.before)
 
-mul-queue : tie.Need-overflow-mul-queue invariant-loop decreases-loop
-mul-queue c = omega (arith, place c.before.before.before)
+mul-queue : tie.Need-offset_bounds-queue-tail invariant-loop-head decreases-loop-head
+mul-queue c = omega (arith, place c.before.before.before.before.before)
 
-element-write-queue : tie.Need-element-write-queue invariant-loop decreases-loop
-element-write-queue c = omega (arith, place c.before.before.before)
+element-write-queue : tie.Need-bounds-queue-tail invariant-loop-head decreases-loop-head
+element-write-queue c = omega (arith, place c.before.before.before.before.before.before)
 
-add-end : tie.Need-overflow-add-end invariant-loop decreases-loop
-add-end c = omega (arith, place c.before.before.before)
+add-end : tie.Need-overflow_add-end invariant-loop-head decreases-loop-head
+add-end c = omega (arith, place c.before.before.before.before.before.before)
 
-loop-holds : tie.Need-loop-init invariant-loop decreases-loop
+loop-holds : tie.Need-loop-head-init invariant-loop-head decreases-loop-head
 loop-holds c = λ a F. F
 
 -- the first that waits is a vertex, and the queue holds no more than there are
-waits : (c : tie.In-loop invariant-loop decreases-loop) → (get_or c.before.loop.queue c.before.loop.head 0 < 1024) × (c.before.loop.head < vertices c.before.before.before.before.before.args.starts.now) × (vertices c.before.before.before.before.before.args.starts.now < 1025)
+waits : (c : tie.In-loop-head invariant-loop-head decreases-loop-head) → (get_or c.loop-head.queue c.loop-head.head 0 < 1024) × (c.loop-head.head < vertices c.args.starts.now) × (vertices c.args.starts.now < 1025)
 waits c =
-    let at = c.before in
-    let start = at.before.before.before.before in
-    let f = (at.loop.invariant _ (begun start)).floods in
+    let f = (c.loop-head.invariant _ (begun c.before.before.before.before.before.before.before.before)).floods in
     let q = f.flooding.queued in
-    omega (arith, (q.held at.loop.head c.loop-test.true).0, q.total, f.admitted.table.small, c.loop-test.true)
+    omega (arith, (q.held c.loop-head.head c.loop-head-test.true).0, q.total, f.admitted.table.small, c.loop-head-test.true)
 
-mul-u : tie.Need-overflow-mul-u invariant-loop decreases-loop
+mul-u : tie.Need-offset_bounds-queue-head invariant-loop-head decreases-loop-head
 mul-u c = omega (arith, waits c)
 
-element-copy-out-u : tie.Need-element-copy-out-u invariant-loop decreases-loop
-element-copy-out-u c = omega (arith, waits c)
+element-copy-out-u : tie.Need-bounds-queue-head invariant-loop-head decreases-loop-head
+element-copy-out-u c = omega (arith, waits c.before)
 
-cast-u : tie.Need-overflow-cast-u invariant-loop decreases-loop
-cast-u c = omega (arith, waits c.before)
+cast-u : tie.Need-overflow_cast-u invariant-loop-head decreases-loop-head
+cast-u c = omega (arith, waits c.before.before)
 
-visit-requires : tie.Need-visit-requires invariant-loop decreases-loop
+visit-requires : tie.Need-visit-end-requires invariant-loop-head decreases-loop-head
 visit-requires c κs =
-    let inside = c.before.before.before.before in
-    let at = inside.before in
-    let start = at.before.before.before.before in
-    record { bytes = start.requires.bytes; state = spread_visit (at.loop.invariant _ (begun start)) inside.loop-test.true }
+    record { bytes = c.requires.bytes; state = spread_visit (c.loop-head.invariant _ (begun c.before.before.before.before.before.before.before.before.before.before.before.before.before)) c.loop-head-test.true }
 
-add-head : tie.Need-overflow-add-head invariant-loop decreases-loop
-add-head c = omega (arith, waits c.before.before.before.before.before)
+add-head : tie.Need-overflow_add-head invariant-loop-head decreases-loop-head
+add-head c = omega (arith, waits c.before.before.before.before.before.before)
 
-loop-less : tie.Need-loop-smaller invariant-loop decreases-loop
-loop-less c = omega (arith, waits c.before.before.before.before.before)
+loop-less : tie.Need-loop-head-smaller invariant-loop-head decreases-loop-head
+loop-less c = omega (arith, waits c.before.before.before.before.before.before)
 
-loop-again : tie.Need-loop-preserved invariant-loop decreases-loop
+loop-again : tie.Need-loop-head-preserved invariant-loop-head decreases-loop-head
 loop-again c =
-    let inside = c.before.before.before.before.before in
-    λ a F. spread_next (inside.before.loop.invariant a F) inside.loop-test.true c.visit.ensures
+    λ a F. spread_next (c.loop-head.invariant a F) c.loop-head-test.true c.visit-end.ensures
 
-returns : tie.Need-returns invariant-loop decreases-loop
+returns : tie.Need-returns invariant-loop-head decreases-loop-head
 returns c =
-    let at = c.before in
-    let p = at.before.before.before.before.requires in
-    let within = (at.loop.invariant _ (begun at.before.before.before.before)).floods.flooding.within in
-    let done : at.loop.head ≡ at.loop.end = omega arith in
-    record { moves = λ a f free. ((rw done at at.loop.invariant) a (spread_seed f free p.vertex p.none)).floods }
+    let p = c.requires in
+    let within = (c.loop-head.invariant _ (begun c.before.before.before.before.before.before.before.before)).floods.flooding.within in
+    let done : c.loop-head.head ≡ c.loop-head.end = omega arith in
+    record { moves = λ a f free. ((rw done at c.loop-head.invariant) a (spread_seed f free p.vertex p.none)).floods }
 
-pub spread-spec : {M : Type 1} → statement M
-spread-spec =
+pub spread_spec : {M : Type 1} → statement M
+spread_spec =
     tie.close
     (tie.spec
-    invariant-loop
-    decreases-loop
+    invariant-loop-head
+    decreases-loop-head
     mul-k
     element-copy-out-k
     mul-pending

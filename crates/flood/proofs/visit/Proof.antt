@@ -16,124 +16,115 @@ use Rattle.flood.proofs.Flooding.{visit-bounds, visit-room, visits_none, visits_
 use Rattle.flood.proofs.visit.Statement.{statement}
 use Rattle.flood.proofs.visit.Tie as tie
 
-abbrev invariant-loop : tie.invariant-loop
-invariant-loop starts links pending₀ component₀ queue₀ k start u tail part end₀ j₀ pending component queue end j = (j ≤ length part) × Visits starts links pending₀ component₀ queue₀ k start u tail (take j part) pending component queue end
+abbrev invariant-loop-j : tie.invariant-loop-j
+invariant-loop-j starts links pending₀ component₀ queue₀ k start u tail part end₀ j₀ pending component queue end j = (j ≤ length part) × Visits starts links pending₀ component₀ queue₀ k start u tail (take j part) pending component queue end
 
-abbrev decreases-loop : tie.decreases-loop
-decreases-loop starts links pending₀ component₀ queue₀ k start u tail part end₀ j₀ pending component queue end j = length part - j
+abbrev decreases-loop-j : tie.decreases-loop-j
+decreases-loop-j starts links pending₀ component₀ queue₀ k start u tail part end₀ j₀ pending component queue end j = length part - j
 
 -- the neighbor looked at
 listed :
-    (c : tie.After-shared-slice-known3 invariant-loop decreases-loop) →
-    let at = c.before.before in
-    let args = at.before.before.before.before.args in
-    In (get_or at.before.neighbors.result.now at.loop.j 0) (neighbors_of args.starts.now args.links.now args.u)
+    (c : tie.After-shared_slice_known-in-loop-j-1 invariant-loop-j decreases-loop-j) →
+    let args = c.args in
+    In (get_or c.neighbors-part.result.now c.loop-j.j 0) (neighbors_of args.starts.now args.links.now args.u)
 listed c =
-    let at = c.before.before in
-    let part = at.before.neighbors.result.now in
-    subst (In (get_or part at.loop.j 0)) at.before.neighbors.ensures (in_at part at.loop.j 0 (omega arith))
+    let part = c.neighbors-part.result.now in
+    subst (In (get_or part c.loop-j.j 0)) c.neighbors-part.ensures (in_at part c.loop-j.j 0 (omega arith))
 
 -- it has a place in the arrays, and the start too
 place :
-    (c : tie.After-shared-slice-known3 invariant-loop decreases-loop) →
-    let at = c.before.before in
-    (get_or at.before.neighbors.result.now at.loop.j 0 < 1024) × (at.before.before.before.before.args.start < 1024)
+    (c : tie.After-shared_slice_known-in-loop-j-1 invariant-loop-j decreases-loop-j) →
+    (get_or c.neighbors-part.result.now c.loop-j.j 0 < 1024) × (c.args.start < 1024)
 place c =
-    let at = c.before.before in
-    let state = at.before.before.before.before.requires.state in
-    let now = at.loop.invariant.1.moves _ state in
+    let state = c.requires.state in
+    let now = c.loop-j.invariant.1.moves _ state in
     omega (arith, visit-bounds state now.0 now.1 _ (listed c))
 
 -- if it joins there is room for it in the queue
-space : (c : tie.Then1 invariant-loop decreases-loop) → c.before.before.before.before.loop.end < 1024
+space : (c : tie.Then-pending-w invariant-loop-j decreases-loop-j) → c.loop-j.end < 1024
 space c =
-    let known = c.before.before in
-    let at = known.before.before in
-    let state = at.before.before.before.before.requires.state in
-    let now = at.loop.invariant.1.moves _ state in
-    omega (arith, visit-room state now.0 now.1 _ (listed known) (omega arith), visit-bounds state now.0 now.1 _ (listed known))
+    let state = c.requires.state in
+    let now = c.loop-j.invariant.1.moves _ state in
+    omega (arith, visit-room state now.0 now.1 _ (listed c.before.before.before) (omega arith), visit-bounds state now.0 now.1 _ (listed c.before.before.before))
 
-neighbors-requires : tie.Need-neighbors-requires invariant-loop decreases-loop
+neighbors-requires : tie.Need-neighbors-part-requires invariant-loop-j decreases-loop-j
 neighbors-requires c κs =
-    let state = c.before.before.requires.state in
+    let state = c.requires.state in
     (state.admitted.table.framed, state.vertex)
 
-loop-holds : tie.Need-loop-init invariant-loop decreases-loop
+loop-holds : tie.Need-loop-j-init invariant-loop-j decreases-loop-j
 loop-holds c = (omega arith, visits_none)
 
-mul-w : tie.Need-overflow-mul-w invariant-loop decreases-loop
+mul-w : tie.Need-offset_bounds-part-j invariant-loop-j decreases-loop-j
 mul-w c = search rules
 
-shared-slice-read-w : tie.Need-shared-slice-read-w invariant-loop decreases-loop
+shared-slice-read-w : tie.Need-bounds-part-j invariant-loop-j decreases-loop-j
 shared-slice-read-w c = search rules
 
-cast-w : tie.Need-overflow-cast-w invariant-loop decreases-loop
+cast-w : tie.Need-overflow_cast-w invariant-loop-j decreases-loop-j
 cast-w c = omega (arith, place c)
 
-mul-if1 : tie.Need-overflow-mul-if1 invariant-loop decreases-loop
+mul-if1 : tie.Need-offset_bounds-pending-w invariant-loop-j decreases-loop-j
 mul-if1 c = omega (arith, place c)
 
-element-copy-out-if1 : tie.Need-element-copy-out-if1 invariant-loop decreases-loop
-element-copy-out-if1 c = omega (arith, place c)
+element-copy-out-if1 : tie.Need-bounds-pending-w invariant-loop-j decreases-loop-j
+element-copy-out-if1 c = omega (arith, place c.before)
 
-mul-pending : tie.Need-overflow-mul-pending invariant-loop decreases-loop
-mul-pending c = omega (arith, place c.before.before)
+mul-pending : tie.Need-offset_bounds-pending-w-then-pending-w invariant-loop-j decreases-loop-j
+mul-pending c = omega (arith, place c.before.before.before)
 
-element-write-pending : tie.Need-element-write-pending invariant-loop decreases-loop
-element-write-pending c = omega (arith, place c.before.before)
+element-write-pending : tie.Need-bounds-pending-w-then-pending-w invariant-loop-j decreases-loop-j
+element-write-pending c = omega (arith, place c.before.before.before)
 
-cast-component : tie.Need-overflow-cast-component invariant-loop decreases-loop
-cast-component c = omega (arith, place c.before.before)
+cast-component : tie.Need-overflow_cast-component invariant-loop-j decreases-loop-j
+cast-component c = omega (arith, place c.before.before.before)
 
-mul-component : tie.Need-overflow-mul-component invariant-loop decreases-loop
-mul-component c = omega (arith, place c.before.before)
+mul-component : tie.Need-offset_bounds-component-w invariant-loop-j decreases-loop-j
+mul-component c = omega (arith, place c.before.before.before)
 
-element-write-component : tie.Need-element-write-component invariant-loop decreases-loop
-element-write-component c = omega (arith, place c.before.before)
+element-write-component : tie.Need-bounds-component-w invariant-loop-j decreases-loop-j
+element-write-component c = omega (arith, place c.before.before.before.before)
 
-cast-queue : tie.Need-overflow-cast-queue invariant-loop decreases-loop
-cast-queue c = omega (arith, place c.before.before)
+cast-queue : tie.Need-overflow_cast-queue invariant-loop-j decreases-loop-j
+cast-queue c = omega (arith, place c.before.before.before.before)
 
-mul-queue : tie.Need-overflow-mul-queue invariant-loop decreases-loop
-mul-queue c = omega (arith, space c)
+mul-queue : tie.Need-offset_bounds-queue-end invariant-loop-j decreases-loop-j
+mul-queue c = omega (arith, space c.before)
 
-element-write-queue : tie.Need-element-write-queue invariant-loop decreases-loop
-element-write-queue c = omega (arith, space c)
+element-write-queue : tie.Need-bounds-queue-end invariant-loop-j decreases-loop-j
+element-write-queue c = omega (arith, space c.before.before)
 
-add-end : tie.Need-overflow-add-end invariant-loop decreases-loop
-add-end c = omega (arith, space c)
+add-end : tie.Need-overflow_add-end invariant-loop-j decreases-loop-j
+add-end c = omega (arith, space c.before.before)
 
-add-j : tie.Need-overflow-add-j invariant-loop decreases-loop
+add-j : tie.Need-overflow_add-j invariant-loop-j decreases-loop-j
 add-j c = search rules
 
-loop-less : tie.Need-loop-smaller invariant-loop decreases-loop
+loop-less : tie.Need-loop-j-smaller invariant-loop-j decreases-loop-j
 loop-less c = search rules
 
-loop-again : tie.Need-loop-preserved invariant-loop decreases-loop
+loop-again : tie.Need-loop-j-preserved invariant-loop-j decreases-loop-j
 loop-again c =
-    let known = c.before.before in
-    let at = known.before.before in
-    let part = at.before.neighbors.result.now in
-    let w = get_or part at.loop.j 0 in
-    let more : take (at.loop.j + 1) part ≡ take at.loop.j part ++ w ∷ [] = rw add-one (take-suc part at.loop.j 0 (omega arith)) in
+    let part = c.neighbors-part.result.now in
+    let w = get_or part c.loop-j.j 0 in
+    let more : take (c.loop-j.j + 1) part ≡ take c.loop-j.j part ++ w ∷ [] = rw add-one (take-suc part c.loop-j.j 0 (omega arith)) in
     ⊎_elim
-    (λ way. rw (more, way.1, way.2, way.3, way.4) (omega arith, visits_label at.loop.invariant.1 w (listed known) (omega arith)))
-    (λ way. rw (more, way.1, way.2, way.3, way.4) (omega arith, visits_pass at.loop.invariant.1 w (listed known) way.0.left))
-    c.if1.branch
+    (λ way. rw (more, way.pending-is, way.component-is, way.queue-is, way.end-is) (omega arith, visits_label c.loop-j.invariant.1 w (listed c.before.before.before) (omega arith)))
+    (λ way. rw (more, way.pending-is, way.component-is, way.queue-is, way.end-is) (omega arith, visits_pass c.loop-j.invariant.1 w (listed c.before.before.before) way.if-pending-w.false))
+    c.if-pending-w.branch-raw
 
-returns : tie.Need-returns invariant-loop decreases-loop
+returns : tie.Need-returns invariant-loop-j decreases-loop-j
 returns c =
-    let at = c.before in
-    let part = at.before.neighbors.result.now in
-    let all : take at.loop.j part ≡ neighbors_of _ _ _ = take_all at.loop.j part (omega arith) ∙ at.before.neighbors.ensures in
-    rw all at at.loop.invariant.1
+    let part = c.neighbors-part.result.now in
+    let all : take c.loop-j.j part ≡ neighbors_of _ _ _ = take_all c.loop-j.j part (omega arith) ∙ c.neighbors-part.ensures in
+    rw all at c.loop-j.invariant.1
 
-pub visit-spec : {M : Type 1} → statement M
-visit-spec =
+pub visit_spec : {M : Type 1} → statement M
+visit_spec =
     tie.close
     (tie.spec
-    invariant-loop
-    decreases-loop
+    invariant-loop-j
+    decreases-loop-j
     neighbors-requires
     loop-holds
     mul-w

@@ -10,82 +10,78 @@ use borrow.Author.Rules.{rules}
 use Rattle.stale.proofs.count_above.Statement.{statement}
 use Rattle.stale.proofs.count_above.Tie as tie
 
-abbrev invariant-loop : tie.invariant-loop
-invariant-loop starts links level v part count₀ i₀ count i = (i ≤ length part) × (count ≤ i) × (count ≡ count_of (higher_by level v) (take i part))
+abbrev invariant-loop-i : tie.invariant-loop-i
+invariant-loop-i starts links level v part count₀ i₀ count i = (i ≤ length part) × (count ≤ i) × (count ≡ count_of (higher_by level v) (take i part))
 
-abbrev decreases-loop : tie.decreases-loop
-decreases-loop starts links level v part count₀ i₀ count i = length part - i
+abbrev decreases-loop-i : tie.decreases-loop-i
+decreases-loop-i starts links level v part count₀ i₀ count i = length part - i
 
 -- the neighbor that is looked at is a vertex
-inside : (c : tie.After-shared-slice-known3 invariant-loop decreases-loop) → let at = c.before.before.before in get_or at.before.neighbors.result.now at.loop.i 0 < 1024
+inside : (c : tie.After-shared_slice_known-in-loop-i-1 invariant-loop-i decreases-loop-i) → get_or c.neighbors-part.result.now c.loop-i.i 0 < 1024
 inside c =
-    let at = c.before.before.before in
-    let start = at.before.before.before.before in
-    let part = at.before.neighbors in
-    let table = start.requires.0 in
-    let w = get_or part.result.now at.loop.i 0 in
-    let listed = subst (In w) part.ensures (in_at part.result.now at.loop.i 0 (omega arith)) in
-    omega (arith, table.small, table.range start.args.v w start.requires.1 listed)
+    let part = c.neighbors-part in
+    let table = c.requires.0 in
+    let w = get_or part.result.now c.loop-i.i 0 in
+    let listed = subst (In w) part.ensures (in_at part.result.now c.loop-i.i 0 (omega arith)) in
+    omega (arith, table.small, table.range c.args.v w c.requires.1 listed)
 
-neighbors-requires : tie.Need-neighbors-requires invariant-loop decreases-loop
+neighbors-requires : tie.Need-neighbors-part-requires invariant-loop-i decreases-loop-i
 neighbors-requires c κs = search rules
 
-loop-holds : tie.Need-loop-init invariant-loop decreases-loop
+loop-holds : tie.Need-loop-i-init invariant-loop-i decreases-loop-i
 loop-holds c =
-    let args = c.before.before.before.args in
-    omega (arith, count-start (higher_by args.level.now args.v) c.neighbors.result.now)
+    let args = c.args in
+    omega (arith, count-start (higher_by args.level.now args.v) c.neighbors-part.result.now)
 
-mul-is-higher : tie.Need-overflow-mul-is-higher invariant-loop decreases-loop
+mul-is-higher : tie.Need-offset_bounds-part-i invariant-loop-i decreases-loop-i
 mul-is-higher c = search rules
 
-shared-slice-read-is-higher : tie.Need-shared-slice-read-is-higher invariant-loop decreases-loop
+shared-slice-read-is-higher : tie.Need-bounds-part-i invariant-loop-i decreases-loop-i
 shared-slice-read-is-higher c = search rules
 
-cast-is-higher : tie.Need-overflow-cast-is-higher invariant-loop decreases-loop
+cast-is-higher : tie.Need-overflow_cast-part invariant-loop-i decreases-loop-i
 cast-is-higher c = omega (arith, inside c)
 
-is-higher-requires : tie.Need-is-higher-requires invariant-loop decreases-loop
+is-higher-requires : tie.Need-is_higher-requires invariant-loop-i decreases-loop-i
 is-higher-requires c κs =
-    let pre = c.before.before.before.before.before.before.before.requires in
-    let long = c.before.is-higher-arg.given.0 in
+    let pre = c.requires in
+    let long = c.is_higher-arg-1.given in
     let small = pre.0.small in
     let near = inside c in
     (omega arith, omega arith)
 
-cast-count : tie.Need-overflow-cast-count invariant-loop decreases-loop
+cast-count : tie.Need-overflow_cast-count invariant-loop-i decreases-loop-i
 cast-count c = search rules
 
-add-count : tie.Need-overflow-add-count invariant-loop decreases-loop
-add-count c = omega (arith, bit_le c.is-higher.result)
+add-count : tie.Need-overflow_add-count invariant-loop-i decreases-loop-i
+add-count c = omega (arith, bit_le c.is_higher.result)
 
-add-i : tie.Need-overflow-add-i invariant-loop decreases-loop
+add-i : tie.Need-overflow_add-i invariant-loop-i decreases-loop-i
 add-i c = search rules
 
-loop-less : tie.Need-loop-smaller invariant-loop decreases-loop
+loop-less : tie.Need-loop-i-smaller invariant-loop-i decreases-loop-i
 loop-less c = search rules
 
-loop-again : tie.Need-loop-preserved invariant-loop decreases-loop
+loop-again : tie.Need-loop-i-preserved invariant-loop-i decreases-loop-i
 loop-again c =
-    let at = c.before.before.before.before in
-    let args = at.before.before.before.before.args in
-    let part = at.before.neighbors.result.now in
-    let step = count-more (higher_by args.level.now args.v) part at.loop.i (omega arith) in
-    omega (arith, ap bit c.is-higher.ensures, bit_le c.is-higher.result)
+    let args = c.args in
+    let part = c.neighbors-part.result.now in
+    let step = count-more (higher_by args.level.now args.v) part c.loop-i.i (omega arith) in
+    omega (arith, ap bit c.is_higher.ensures, bit_le c.is_higher.result)
 
-returns : tie.Need-returns invariant-loop decreases-loop
+returns : tie.Need-returns invariant-loop-i decreases-loop-i
 returns c =
-    let at = c.before in
-    let args = at.before.before.before.before.args in
+    let args = c.args in
     let test = higher_by args.level.now args.v in
-    let part = at.before.neighbors in
-    at.loop.invariant.2 ∙ count-end test part.result.now at.loop.i (omega arith) ∙ ap (count_of test) part.ensures
+    let part = c.neighbors-part in
+    c.loop-i.invariant.2 ∙ count-end test part.result.now c.loop-i.i (omega arith) ∙ ap (count_of test) part.ensures
 
-pub count-above-spec : {M : Type 1} → statement M
-count-above-spec =
+pub count_above_spec : {M : Type 1} → statement M
+count_above_spec =
     tie.close
     (tie.spec
-    invariant-loop
-    decreases-loop
+    invariant-loop-i
+    decreases-loop-i
     neighbors-requires
     loop-holds
     mul-is-higher

@@ -12,73 +12,67 @@ use borrow.Author.Rules.{rules}
 use Rattle.stale.proofs.fill_above.Statement.{statement}
 use Rattle.stale.proofs.fill_above.Tie as tie
 
-abbrev invariant-loop : tie.invariant-loop
-invariant-loop starts links level above₀ n v₀ above v = (v ≤ n) × (length above ≡ 1024) × Holds above v (above_by starts links level)
+abbrev invariant-loop-v : tie.invariant-loop-v
+invariant-loop-v starts links level above₀ n v₀ above v = (v ≤ n) × (length above ≡ 1024) × Holds above v (above_by starts links level)
 
-abbrev decreases-loop : tie.decreases-loop
-decreases-loop starts links level above₀ n v₀ above v = n - v
+abbrev decreases-loop-v : tie.decreases-loop-v
+decreases-loop-v starts links level above₀ n v₀ above v = n - v
 
-sub-n : tie.Need-overflow-sub-n invariant-loop decreases-loop
+sub-n : tie.Need-overflow_sub-n invariant-loop-v decreases-loop-v
 sub-n c = search rules
 
-loop-holds : tie.Need-loop-init invariant-loop decreases-loop
+loop-holds : tie.Need-loop-v-init invariant-loop-v decreases-loop-v
 loop-holds c =
-    let start = c.before.before in
-    let args = start.args in
-    (omega arith, start.requires.1, holds-none args.above.now (above_by args.starts.now args.links.now args.level.now))
+    let args = c.args in
+    (omega arith, c.requires.1, holds-none args.above.now (above_by args.starts.now args.links.now args.level.now))
 
-count-above-requires : tie.Need-count-above-requires invariant-loop decreases-loop
+count-above-requires : tie.Need-count_above-requires invariant-loop-v decreases-loop-v
 count-above-requires c κs = search rules
 
-cast-above : tie.Need-overflow-cast-above invariant-loop decreases-loop
+cast-above : tie.Need-overflow_cast-above invariant-loop-v decreases-loop-v
 cast-above c =
-    let start = c.before.before.before.before.before in
-    let args = start.args in
-    let number = c.count-above.ensures in
-    omega (arith, above-few args.starts.now args.links.now start.requires.0 args.level.now c.before.before.loop.v (omega arith))
+    let args = c.args in
+    let number = c.count_above.ensures in
+    omega (arith, above-few args.starts.now args.links.now c.requires.0 args.level.now c.loop-v.v (omega arith))
 
-mul-above : tie.Need-overflow-mul-above invariant-loop decreases-loop
+mul-above : tie.Need-offset_bounds-above-v invariant-loop-v decreases-loop-v
 mul-above c =
-    let small = c.before.before.before.before.before.requires.0.small in
+    let small = c.requires.0.small in
     omega arith
 
-element-write-above : tie.Need-element-write-above invariant-loop decreases-loop
+element-write-above : tie.Need-bounds-above-v invariant-loop-v decreases-loop-v
 element-write-above c =
-    let small = c.before.before.before.before.before.requires.0.small in
+    let small = c.requires.0.small in
     omega arith
 
-add-v : tie.Need-overflow-add-v invariant-loop decreases-loop
+add-v : tie.Need-overflow_add-v invariant-loop-v decreases-loop-v
 add-v c = search rules
 
-loop-less : tie.Need-loop-smaller invariant-loop decreases-loop
+loop-less : tie.Need-loop-v-smaller invariant-loop-v decreases-loop-v
 loop-less c = search rules
 
-loop-again : tie.Need-loop-preserved invariant-loop decreases-loop
+loop-again : tie.Need-loop-v-preserved invariant-loop-v decreases-loop-v
 loop-again c =
-    let at = c.before.before in
-    let start = at.before.before.before in
-    let args = start.args in
-    let small = start.requires.0.small in
-    let long = at.loop.invariant.1 in (
+    let args = c.args in
+    let small = c.requires.0.small in
+    let long = c.loop-v.invariant.1 in (
       omega arith,
-      length-set {A = ℕ} at.loop.above at.loop.v c.count-above.result ∙ long,
-      rw c.count-above.ensures (holds_more at.loop.above (above_by args.starts.now args.links.now args.level.now) at.loop.v (omega arith) at.loop.invariant.2),
+      length-set {A = ℕ} c.loop-v.above c.loop-v.v c.count_above.result ∙ long,
+      rw c.count_above.ensures (holds_more c.loop-v.above (above_by args.starts.now args.links.now args.level.now) c.loop-v.v (omega arith) c.loop-v.invariant.2),
     )
 
-returns : tie.Need-returns invariant-loop decreases-loop
+returns : tie.Need-returns invariant-loop-v decreases-loop-v
 returns c =
-    let at = c.before in
-    let start = at.before.before.before in
-    let args = start.args in
-    let end : at.loop.v ≡ vertices args.starts.now = omega arith in
-    subst (λ z. Holds at.loop.above z (above_by args.starts.now args.links.now args.level.now)) end at.loop.invariant.2
+    let args = c.args in
+    let end : c.loop-v.v ≡ vertices args.starts.now = omega arith in
+    subst (λ z. Holds c.loop-v.above z (above_by args.starts.now args.links.now args.level.now)) end c.loop-v.invariant.2
 
-pub fill-above-spec : {M : Type 1} → statement M
-fill-above-spec =
+pub fill_above_spec : {M : Type 1} → statement M
+fill_above_spec =
     tie.close
     (tie.spec
-    invariant-loop
-    decreases-loop
+    invariant-loop-v
+    decreases-loop-v
     sub-n
     loop-holds
     count-above-requires

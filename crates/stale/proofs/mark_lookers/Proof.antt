@@ -11,61 +11,57 @@ use borrow.Author.Rules.{rules}
 use Rattle.stale.proofs.mark_lookers.Statement.{statement}
 use Rattle.stale.proofs.mark_lookers.Tie as tie
 
-abbrev invariant-loop : tie.invariant-loop
-invariant-loop starts links level layer component changed stale₀ n u₀ stale u = (u ≤ n) × Added (up_to (looks_by starts links level layer component changed) u) stale₀ stale
+abbrev invariant-loop-u : tie.invariant-loop-u
+invariant-loop-u starts links level layer component changed stale₀ n u₀ stale u = (u ≤ n) × Added (up_to (looks_by starts links level layer component changed) u) stale₀ stale
 
-abbrev decreases-loop : tie.decreases-loop
-decreases-loop starts links level layer component changed stale₀ n u₀ stale u = n - u
+abbrev decreases-loop-u : tie.decreases-loop-u
+decreases-loop-u starts links level layer component changed stale₀ n u₀ stale u = n - u
 
 -- what is looked for
-abbrev test : tie.Start invariant-loop decreases-loop → ℕ → Bool
+abbrev test : tie.Start invariant-loop-u decreases-loop-u → ℕ → Bool
 test c = let args = c.args in looks_by args.starts.now args.links.now args.level.now args.layer.now args.component.now args.changed.now
 
-sub-n : tie.Need-overflow-sub-n invariant-loop decreases-loop
+sub-n : tie.Need-overflow_sub-n invariant-loop-u decreases-loop-u
 sub-n c = search rules
 
-loop-holds : tie.Need-loop-init invariant-loop decreases-loop
-loop-holds c = (search rules, adds_none (test c.before.before) _ c.before.before.requires.1)
+loop-holds : tie.Need-loop-u-init invariant-loop-u decreases-loop-u
+loop-holds c = (search rules, adds_none (test c.before.before) _ c.requires.1)
 
-looks-requires : tie.Need-looks-requires invariant-loop decreases-loop
+looks-requires : tie.Need-looks-requires invariant-loop-u decreases-loop-u
 looks-requires c κs = search rules
 
-element-write-stale : tie.Need-element-write-stale invariant-loop decreases-loop
+element-write-stale : tie.Need-bounds-stale-u invariant-loop-u decreases-loop-u
 element-write-stale c = search rules
 
-add-u : tie.Need-overflow-add-u invariant-loop decreases-loop
+add-u : tie.Need-overflow_add-u invariant-loop-u decreases-loop-u
 add-u c = search rules
 
-loop-less : tie.Need-loop-smaller invariant-loop decreases-loop
+loop-less : tie.Need-loop-u-smaller invariant-loop-u decreases-loop-u
 loop-less c = search rules
 
-loop-again : tie.Need-loop-preserved invariant-loop decreases-loop
+loop-again : tie.Need-loop-u-preserved invariant-loop-u decreases-loop-u
 loop-again c =
-    let at = c.before.before.before in
-    let start = at.before.before.before in
-    let small = start.requires.0.small in
-    let told = sym c.before.looks.ensures in
-    let so = at.loop.invariant.1 in (
+    let small = c.requires.0.small in
+    let told = sym c.looks.ensures in
+    let so = c.loop-u.invariant.1 in (
       omega arith,
       ⊎_elim
-          (λ w. rw w.1 (adds-more (test start) _ _ at.loop.u so (told ∙ w.0.taken) (omega arith)))
-          (λ w. rw w.1 (adds_skip (test start) _ _ at.loop.u so (told ∙ w.0.left)))
-          c.if1.branch,
+          (λ w. rw w.stale-is (adds-more (test c.before.before.before.before.before.before) _ _ c.loop-u.u so (told ∙ w.if-looks.true) (omega arith)))
+          (λ w. rw w.stale-is (adds_skip (test c.before.before.before.before.before.before) _ _ c.loop-u.u so (told ∙ w.if-looks.false)))
+          c.if-looks.branch-raw,
     )
 
-returns : tie.Need-returns invariant-loop decreases-loop
+returns : tie.Need-returns invariant-loop-u decreases-loop-u
 returns c =
-    let at = c.before in
-    let start = at.before.before.before in
-    let end : at.loop.u ≡ vertices start.args.starts.now = omega arith in
-    subst (λ z. Added (up_to (test start) z) start.args.stale.now at.loop.stale) end at.loop.invariant.1
+    let end : c.loop-u.u ≡ vertices c.args.starts.now = omega arith in
+    subst (λ z. Added (up_to (test c.before.before.before.before) z) c.args.stale.now c.loop-u.stale) end c.loop-u.invariant.1
 
-pub mark-lookers-spec : {M : Type 1} → statement M
-mark-lookers-spec =
+pub mark_lookers_spec : {M : Type 1} → statement M
+mark_lookers_spec =
     tie.close
     (tie.spec
-    invariant-loop
-    decreases-loop
+    invariant-loop-u
+    decreases-loop-u
     sub-n
     loop-holds
     looks-requires

@@ -10,58 +10,56 @@ use borrow.Author.Rules.{rules}
 use Rattle.stale.proofs.mark_numbers.Statement.{statement}
 use Rattle.stale.proofs.mark_numbers.Tie as tie
 
-abbrev invariant-loop : tie.invariant-loop
-invariant-loop n component unsteady changed₀ v₀ changed v = (v ≤ n) × Added (up_to (carried component unsteady v) 1024) changed₀ changed
+abbrev invariant-loop-v : tie.invariant-loop-v
+invariant-loop-v n component unsteady changed₀ v₀ changed v = (v ≤ n) × Added (up_to (carried component unsteady v) 1024) changed₀ changed
 
-abbrev decreases-loop : tie.decreases-loop
-decreases-loop n component unsteady changed₀ v₀ changed v = n - v
+abbrev decreases-loop-v : tie.decreases-loop-v
+decreases-loop-v n component unsteady changed₀ v₀ changed v = n - v
 
-loop-holds : tie.Need-loop-init invariant-loop decreases-loop
+loop-holds : tie.Need-loop-v-init invariant-loop-v decreases-loop-v
 loop-holds c = (search rules, numbers-none c.args.component.now c.args.unsteady.now _ c.requires.1)
 
-element-copy-out-if1 : tie.Need-element-copy-out-if1 invariant-loop decreases-loop
+element-copy-out-if1 : tie.Need-bounds-unsteady-v invariant-loop-v decreases-loop-v
 element-copy-out-if1 c = search rules
 
-mul-mark : tie.Need-overflow-mul-mark invariant-loop decreases-loop
+mul-mark : tie.Need-offset_bounds-component-v invariant-loop-v decreases-loop-v
 mul-mark c = search rules
 
-element-copy-out-mark : tie.Need-element-copy-out-mark invariant-loop decreases-loop
+element-copy-out-mark : tie.Need-bounds-component-v invariant-loop-v decreases-loop-v
 element-copy-out-mark c = search rules
 
-mark-requires : tie.Need-mark-requires invariant-loop decreases-loop
+mark-requires : tie.Need-mark-requires invariant-loop-v decreases-loop-v
 mark-requires c κs = search rules
 
-add-v : tie.Need-overflow-add-v invariant-loop decreases-loop
+add-v : tie.Need-overflow_add-v invariant-loop-v decreases-loop-v
 add-v c = search rules
 
-loop-less : tie.Need-loop-smaller invariant-loop decreases-loop
+loop-less : tie.Need-loop-v-smaller invariant-loop-v decreases-loop-v
 loop-less c = search rules
 
-loop-again : tie.Need-loop-preserved invariant-loop decreases-loop
+loop-again : tie.Need-loop-v-preserved invariant-loop-v decreases-loop-v
 loop-again c =
-    let at = c.before.before.before in
-    let args = at.before.args in
-    let so = at.loop.invariant.1 in (
+    let args = c.args in
+    let so = c.loop-v.invariant.1 in (
       omega arith,
       ⊎_elim
-          (λ w. rw (w.4 ∙ w.3.ensures) (numbers_more args.component.now args.unsteady.now _ _ at.loop.v so (eq-eqb _ _ w.0.taken)))
-          (λ w. rw w.1 (numbers_skip args.component.now args.unsteady.now _ _ at.loop.v so (ne_eqb _ _ w.0.left)))
-          c.if1.branch,
+          (λ w. rw (w.changed-is ∙ w.mark.ensures) (numbers_more args.component.now args.unsteady.now _ _ c.loop-v.v so (eq-eqb _ _ w.if-unsteady-v-eq1.true)))
+          (λ w. rw w.changed-is (numbers_skip args.component.now args.unsteady.now _ _ c.loop-v.v so (ne_eqb _ _ w.if-unsteady-v-eq1.false)))
+          c.if-unsteady-v-eq1.branch-raw,
     )
 
-returns : tie.Need-returns invariant-loop decreases-loop
+returns : tie.Need-returns invariant-loop-v decreases-loop-v
 returns c =
-    let at = c.before in
-    let args = at.before.args in
-    let end : at.loop.v ≡ args.n = omega arith in
-    subst (λ z. Added (up_to (carried args.component.now args.unsteady.now z) 1024) args.changed.now at.loop.changed) end at.loop.invariant.1
+    let args = c.args in
+    let end : c.loop-v.v ≡ args.n = omega arith in
+    subst (λ z. Added (up_to (carried args.component.now args.unsteady.now z) 1024) args.changed.now c.loop-v.changed) end c.loop-v.invariant.1
 
-pub mark-numbers-spec : {M : Type 1} → statement M
-mark-numbers-spec =
+pub mark_numbers_spec : {M : Type 1} → statement M
+mark_numbers_spec =
     tie.close
     (tie.spec
-    invariant-loop
-    decreases-loop
+    invariant-loop-v
+    decreases-loop-v
     loop-holds
     element-copy-out-if1
     mul-mark

@@ -7,7 +7,7 @@ peel-requires : tie.Need-peel-requires
 peel-requires c κs = search rules
 
 flood-requires : tie.Need-flood-requires
-flood-requires c κs = c.before.before.before.peel.ensures.leveled
+flood-requires c κs = c.peel.ensures.leveled
 
 returns : tie.Need-returns
 returns c = search rules

@@ -6,7 +6,7 @@ use Prim.Native.Nat.{ℕ, ◌-◌}
 use native.Mathlib.Omega.{arith}
 use lib.ListN.{get_or}
 use lib.Dec.{leb, ltb}
-use borrow.Author.Tests.{eqb-false}
+use borrow.Author.Tests.{eqb-false, eq-eqb, ne_eqb}
 use borrow.Author.Rules.{rules}
 use Rattle.finite.specs.Count.{count, In}
 use Rattle.table.specs.Table.{neighbors}
@@ -54,15 +54,15 @@ counted G A lev lay v level pair before counts = free-fault G A lev lay v counts
 
 -- ---- the code's facts in those words
 
-abbrev entry : tie.After-is-misplaced → tie.Start
+abbrev entry : tie.After-is_misplaced → tie.Start
 entry c = c.before.before.before.before.before.before.before.before.before
 
 -- what was called says whether the entry of v is out of place
-told : (c : tie.After-is-misplaced) →
+told : (c : tie.After-is_misplaced) →
     let args = (entry c).args in
-    misplaced (graph_of args.starts.now args.links.now) (anchored_by args.anchored.now) (λ w. get_or args.levels.now w 0) (λ w. get_or args.layers.now w 0) args.v ≡ c.is-misplaced.result
+    misplaced (graph_of args.starts.now args.links.now) (anchored_by args.anchored.now) (λ w. get_or args.levels.now w 0) (λ w. get_or args.layers.now w 0) args.v ≡ c.is_misplaced.result
 unfolding misplaced
-told c = sym c.is-misplaced.ensures
+told c = sym c.is_misplaced.ensures
 
 -- the neighbors have rows
 rows : (c : tie.Start) → let args = c.args in (w : ℕ) → In w (neighbors args.starts.now args.links.now args.v) → HasRow args.anchored.now args.levels.now args.layers.now w
@@ -77,47 +77,46 @@ module _ (stands : ℕ → ℕ → ℕ → Bool) (part near : List ℕ) (k l m j
   count-is : (total : ℕ) → total ≡ count (stands k l) part → total ≡ count (stands m j) near
   count-is total e = rw (← same-part, ← same-level, ← same-layer) e
 
-counts : (c : tie.After-count-support) →
+counts : (c : tie.After-count_support-support) →
     let args = (entry c.before.before.before.before.before).args in
-    let result = c.count-support.result in
+    let result = c.count_support-support.result in
     Counts (graph_of args.starts.now args.links.now) (anchored_by args.anchored.now) (λ w. get_or args.levels.now w 0) (λ w. get_or args.layers.now w 0) args.v result.level result.pair result.before
 counts c =
-    let free = c.before.before.before in
-    let args = (entry free.before.before).args in
+    let args = (entry c.before.before.before.before.before).args in
     let stands = stands_at args.anchored.now args.levels.now args.layers.now in
-    let near = c.before.before.neighbors.ensures in
-    let new = c.before.new.ensures in
-    let totals = c.count-support.ensures in record {
-      placed = told free.before.before ∙ free.before.if1.false;
-      free = free.if2.false;
+    let near = c.neighbors.ensures in
+    let new = c.new.ensures in
+    let totals = c.count_support-support.ensures in record {
+      placed = told c.before.before.before.before.before ∙ c.if-is_misplaced.false;
+      free = ne_eqb _ _ c.if-is_anchored.false;
       in-level = count-is stands _ _ _ _ _ _ near new.0 refl _ totals.0;
       in_pair = count-is stands _ _ _ _ _ _ near new.0 new.1 _ totals.1.0;
       in-before = count-is stands _ _ _ _ _ _ near new.0 (ap (λ l. l - 1) new.1) _ totals.1.1;
     }
 
-mul-level : tie.Need-overflow-mul-level
+mul-level : tie.Need-offset_bounds-levels-v
 mul-level c = search rules
 
-shared-slice-read-level : tie.Need-shared-slice-read-level
+shared-slice-read-level : tie.Need-bounds-levels-v
 shared-slice-read-level c = search rules
 
-mul-layer : tie.Need-overflow-mul-layer
+mul-layer : tie.Need-offset_bounds-layers-v
 mul-layer c = search rules
 
-shared-slice-read-layer : tie.Need-shared-slice-read-layer
+shared-slice-read-layer : tie.Need-bounds-layers-v
 shared-slice-read-layer c = search rules
 
-shared-slice-read-is-anchored : tie.Need-shared-slice-read-is-anchored
+shared-slice-read-is-anchored : tie.Need-bounds-anchored-v
 shared-slice-read-is-anchored c = search rules
 
-is-misplaced-requires : tie.Need-is-misplaced-requires
+is-misplaced-requires : tie.Need-is_misplaced-requires
 is-misplaced-requires c κs = search rules
 
-returns : tie.Need-returns
-returns c = sym (out-of-place _ _ _ _ _ (told c.before ∙ c.if1.true))
+returns : tie.Need-returns-then-is_misplaced
+returns c = sym (out-of-place _ _ _ _ _ (told c.before ∙ c.if-is_misplaced.true))
 
-returns-2 : tie.Need-returns-2
-returns-2 c = sym (anchored-fits _ _ _ _ _ (told c.before.before ∙ c.before.if1.false) c.if2.true)
+returns-2 : tie.Need-returns-then-is_anchored
+returns-2 c = sym (anchored-fits _ _ _ _ _ (told c.before.before ∙ c.if-is_misplaced.false) (eq-eqb _ _ c.if-is_anchored.true))
 
 neighbors-requires : tie.Need-neighbors-requires
 neighbors-requires c κs = search rules
@@ -125,24 +124,22 @@ neighbors-requires c κs = search rules
 new-requires : tie.Need-new-requires
 new-requires c κs = search rules
 
-count-support-requires : tie.Need-count-support-requires
+count-support-requires : tie.Need-count_support-support-requires
 count-support-requires c κs =
-    let free = c.before.before in
-    let at = free.before.before in
     let new = c.new.ensures in
-    let layer = free-layer _ _ _ _ _ (told at ∙ free.before.if1.false) free.if2.false in (
-      rw c.before.neighbors.ensures (rows (entry at)),
+    let layer = free-layer _ _ _ _ _ (told c.before.before.before.before ∙ c.if-is_misplaced.false) (ne_eqb _ _ c.if-is_anchored.false) in (
+      rw c.neighbors.ensures (rows (entry c.before.before.before.before)),
       omega arith,
     )
 
-counted-fault-requires : tie.Need-counted-fault-requires
+counted-fault-requires : tie.Need-counted_fault-requires
 counted-fault-requires c κs = search rules
 
-returns-3 : tie.Need-returns-3
-returns-3 c = c.counted-fault.ensures ∙ sym (counted _ _ _ _ _ _ _ _ (counts c.before))
+returns-3 : tie.Need-returns
+returns-3 c = c.counted_fault.ensures ∙ sym (counted _ _ _ _ _ _ _ _ (counts c.before))
 
-pub fault-at-spec : {M : Type 1} → statement M
-fault-at-spec =
+pub fault_at_spec : {M : Type 1} → statement M
+fault_at_spec =
     tie.close
     (tie.spec
     mul-level

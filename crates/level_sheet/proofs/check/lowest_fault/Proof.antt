@@ -10,55 +10,53 @@ use Rattle.level_sheet.proofs.Faults.{lowest-none, lowest-take, lowest-keep}
 use Rattle.level_sheet.proofs.check.lowest_fault.Statement.{statement}
 use Rattle.level_sheet.proofs.check.lowest_fault.Tie as tie
 
-abbrev invariant-loop : tie.invariant-loop
-invariant-loop starts links anchored levels layers n number₀ place₀ v₀ number place v = (v ≤ n) × Lowest (fault_of starts links anchored levels layers) v number place
+abbrev invariant-loop-v : tie.invariant-loop-v
+invariant-loop-v starts links anchored levels layers n number₀ place₀ v₀ number place v = (v ≤ n) × Lowest (fault_of starts links anchored levels layers) v number place
 
-abbrev decreases-loop : tie.decreases-loop
-decreases-loop starts links anchored levels layers n number₀ place₀ v₀ number place v = n - v
+abbrev decreases-loop-v : tie.decreases-loop-v
+decreases-loop-v starts links anchored levels layers n number₀ place₀ v₀ number place v = n - v
 
-abbrev entry : tie.At-loop invariant-loop decreases-loop → tie.Start invariant-loop decreases-loop
+abbrev entry : tie.At-loop-v invariant-loop-v decreases-loop-v → tie.Start invariant-loop-v decreases-loop-v
 entry c = c.before.before.before.before.before.before
 
 -- the faults, as the call has them
-abbrev faults : tie.Start invariant-loop decreases-loop → ℕ → ℕ
+abbrev faults : tie.Start invariant-loop-v decreases-loop-v → ℕ → ℕ
 faults c = let args = c.args in fault_of args.starts.now args.links.now args.anchored.now args.levels.now args.layers.now
 
-sub-n : tie.Need-overflow-sub-n invariant-loop decreases-loop
-sub-n c = let some = c.before.before.before.before.before.requires.0.table.framed.some in omega arith
+sub-n : tie.Need-overflow_sub-n invariant-loop-v decreases-loop-v
+sub-n c = let some = c.requires.0.table.framed.some in omega arith
 
-loop-holds : tie.Need-loop-init invariant-loop decreases-loop
+loop-holds : tie.Need-loop-v-init invariant-loop-v decreases-loop-v
 loop-holds c = (omega arith, lowest-none _)
 
-fault-at-requires : tie.Need-fault-at-requires invariant-loop decreases-loop
-fault-at-requires c κs = let given = (entry c.before).pre in (given.0, (given.1.0, (given.1.1, omega arith)))
+fault-at-requires : tie.Need-fault_at-own-requires invariant-loop-v decreases-loop-v
+fault-at-requires c κs = let given = (entry c.before).requires in (given.0, (given.1.0, (given.1.1, omega arith)))
 
-add-v : tie.Need-overflow-add-v invariant-loop decreases-loop
+add-v : tie.Need-overflow_add-v invariant-loop-v decreases-loop-v
 add-v c = search rules
 
-loop-less : tie.Need-loop-smaller invariant-loop decreases-loop
+loop-less : tie.Need-loop-v-smaller invariant-loop-v decreases-loop-v
 loop-less c = search rules
 
-loop-again : tie.Need-loop-preserved invariant-loop decreases-loop
+loop-again : tie.Need-loop-v-preserved invariant-loop-v decreases-loop-v
 loop-again c =
-    let at = c.before.before.before in
-    let f = faults (entry at) in
-    let v = at.loop.v in
-    let own = c.before.fault-at.ensures in
-    let low = at.loop.invariant.1 in (
+    let f = faults (entry c.before.before.before) in
+    let v = c.loop-v.v in
+    let own = c.fault_at-own.ensures in
+    let low = c.loop-v.invariant.1 in (
       omega arith,
       ⊎_elim
-          (λ w. rw (w.1, w.2, own) (lowest-take f v at.loop.number _ low (omega (arith, own, w.0.taken))))
-          (λ w. rw (w.1, w.2) (lowest-keep f v at.loop.number _ low (omega (arith, own, w.0.left))))
-          c.if1.branch,
+          (λ w. rw (w.number-is, w.place-is, own) (lowest-take f v c.loop-v.number _ low (omega (arith, own, w.if-own-number.true))))
+          (λ w. rw (w.number-is, w.place-is) (lowest-keep f v c.loop-v.number _ low (omega (arith, own, w.if-own-number.false))))
+          c.if-own-number.branch-raw,
     )
 
-returns : tie.Need-returns invariant-loop decreases-loop
+returns : tie.Need-returns invariant-loop-v decreases-loop-v
 returns c =
-    let head = c.before in
-    let end : head.loop.v ≡ vertices (entry head).args.starts.now = omega arith in
-    subst (λ n. Lowest (faults (entry head)) n head.loop.number head.loop.place) end head.loop.invariant.1
+    let end : c.loop-v.v ≡ vertices (entry c.before).args.starts.now = omega arith in
+    subst (λ n. Lowest (faults (entry c.before)) n c.loop-v.number c.loop-v.place) end c.loop-v.invariant.1
 
-pub lowest-fault-spec : {M : Type 1} → statement M
-lowest-fault-spec =
+pub lowest_fault_spec : {M : Type 1} → statement M
+lowest_fault_spec =
     tie.close
-    (tie.spec invariant-loop decreases-loop sub-n loop-holds fault-at-requires add-v loop-less loop-again returns)
+    (tie.spec invariant-loop-v decreases-loop-v sub-n loop-holds fault-at-requires add-v loop-less loop-again returns)
