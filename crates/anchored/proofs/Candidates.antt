@@ -19,31 +19,10 @@ use Rattle.anchored.specs.Graph.{Graph, Simple}
 use Rattle.anchored.specs.Core.{core, level, layer, greater}
 use Rattle.anchored.specs.Component.{Joined, stay, hop}
 use Rattle.anchored.specs.Sheet.{at_least}
-use Rattle.anchored.specs.Followers.{adding, follows, first_step, further_step, Walk, start, step, onward, candidates, reached, mark}
+use Rattle.anchored.specs.Followers.{adding, follows, first_step, Walk, start, step, onward, candidates, reached, mark}
 use Rattle.anchored.proofs.Core.{core_solid, level-max, in_core}
 use Rattle.anchored.proofs.Sheet.{defined_local}
 use Rattle.anchored.proofs.Anchor.{free_of, free-adding, level_by_one}
-
--- what a further step is
-module _ (G : Graph) (A : ℕ → Bool) (u w : ℕ) where
-  abbrev alike : Bool
-  alike = not (A w) && eqb (level G A u) (level G A w)
-
-  pub further-free : T (further_step G A u w) → T (not (A w))
-  unfolding further_step
-  further-free t = and_l (not (A w)) _ (and_l alike _ t)
-
-  pub further-level : T (further_step G A u w) → level G A u ≡ level G A w
-  unfolding further_step
-  further-level t = eqb→eq (level G A u) (level G A w) (and_r (not (A w)) _ (and_l alike _ t))
-
-  pub further-layer : T (further_step G A u w) → layer G A u < layer G A w
-  unfolding further_step
-  further-layer t = leb→le (suc (layer G A u)) (layer G A w) (and_r alike _ t)
-
-  pub further_i : T (not (A w)) → level G A u ≡ level G A w → layer G A u < layer G A w → T (further_step G A u w)
-  unfolding further_step
-  further_i a e h = and_i alike _ (and_i (not (A w)) _ a (eqb_of (level G A u) (level G A w) e)) (le→leb (suc (layer G A u)) (layer G A w) h)
 
 module _ (G : Graph) (L : Simple G) (A : ℕ → Bool) (x : ℕ) where
   abbrev lev : ℕ → ℕ
@@ -70,8 +49,9 @@ module _ (G : Graph) (L : Simple G) (A : ℕ → Bool) (x : ℕ) where
   walk_candidate v (start b t) = grow_keeps G.size (onward G A) G.size _ v b (having_i _ G.size v b t)
   walk_candidate v (step {w = w} k b a i e h) =
       let C = candidates G A x in
-      subst (λ s. T (has s v)) candidates-rest (grow_i G.size (onward G A) C v b (or_r (has C v) _
-      (any_i (λ u. has C u && further_step G A u v) (G.neighbors v) w i (and_i (has C w) _ (walk_candidate w k) (further_i G A w v a e h)))))
+      subst (λ s. T (has s v)) candidates-rest (grow_i G.size (onward G A) C v b (or_r (has C v) _ (and_i (not (A v)) _ a
+      (any_i (λ u. has C u && eqb (lev u) (lev v) && ltb (lay u) (lay v)) (G.neighbors v) w i
+      (and_i (has C w && eqb (lev w) (lev v)) _ (and_i (has C w) _ (walk_candidate w k) (eqb_of (lev w) (lev v) e)) (le→leb (suc (lay w)) (lay v) h))))))
 
   after : ℕ → List Bool
   after m = rounds (grow G.size (onward G A)) m (having (first_step G A x) G.size)
@@ -83,10 +63,11 @@ module _ (G : Graph) (L : Simple G) (A : ℕ → Bool) (x : ℕ) where
       let g : T (has (grow G.size (onward G A) (after m)) v) = rw rounds-suc at h in
       let d = grow-e G.size (onward G A) (after m) v g in
       or-e (has (after m) v) _ d.1 (after_walk m v) (λ t.
-      let r = any-e (λ u. has (after m) u && further_step G A u v) (G.neighbors v) t in
+      let r = any-e (λ u. has (after m) u && eqb (lev u) (lev v) && ltb (lay u) (lay v)) (G.neighbors v) (and_r (not (A v)) _ t) in
       let w = r.0 in
-      let f = and_r (has (after m) w) _ r.2 in
-      step (after_walk m w (and_l (has (after m) w) _ r.2)) d.0 (further-free G A w v f) r.1 (further-level G A w v f) (further-layer G A w v f))
+      let p = and_l (has (after m) w && eqb (lev w) (lev v)) _ r.2 in
+      step (after_walk m w (and_l (has (after m) w) _ p)) d.0 (and_l (not (A v)) _ t) r.1 (eqb→eq (lev w) (lev v) (and_r (has (after m) w) _ p))
+      (leb→le (suc (lay w)) (lay v) (and_r (has (after m) w && eqb (lev w) (lev v)) _ r.2)))
 
   pub candidate_walk : (v : ℕ) → T (has (candidates G A x) v) → Walk G A x v
   unfolding candidates after

@@ -7,26 +7,49 @@ use mathlib.Core.Bool.{Bool, true, false, not, cond, ◌&&◌, ◌||◌}
 use mathlib.Core.List.{List, [], ◌∷◌}
 use lib.IntN.{pos, ◌-ℤ◌}
 use lib.Signed.{le_z}
-use lib.Dec.{T, eqb, eqb→eq, eqb_refl, T_not, not_T}
+use lib.Dec.{T, eqb, eqb→eq, eqb_refl, leb→le, le→leb, T_not, not_T}
 use native.Mathlib.Omega.{arith}
 use Rattle.finite.specs.Count.{In, count, sum, below}
 use Rattle.finite.specs.Search.{any, member}
 use Rattle.finite.specs.Sets.{has}
-use Rattle.finite.proofs.Tests.{and_i, and_l, and_r, or_l, or_r, or-e, false_of}
+use Rattle.finite.proofs.Tests.{and_i, and_l, and_r, or_l, or_r, or-e, false_of, eqb_of}
 use Rattle.finite.proofs.Count.{sum_cong, sum_mono, in_below, distinct-below, count-below-le, count_mono, count_none, count_off}
 use Rattle.finite.proofs.Search.{any_i, any-e, member-e, count-any}
 use Rattle.finite.proofs.Pairs.{strong}
 use Rattle.finite.proofs.Signed.{le_z_chains, sub_mono}
 use Rattle.anchored.specs.Graph.{Graph, Simple}
-use Rattle.anchored.specs.Core.{layer}
-use Rattle.anchored.specs.Followers.{follows, followers, first_step, further_step, Walk, start, step, candidates, reached}
+use Rattle.anchored.specs.Core.{level, layer}
+use Rattle.anchored.specs.Followers.{follows, followers, first_step, Walk, start, step, candidates, reached}
 use Rattle.anchored.specs.Yield.{climb, net, choice_of}
-use Rattle.anchored.specs.Ceiling.{sum_steps, capped, ceiling_within, ceiling_from, ceiling, walks_within, walks, outdone}
+use Rattle.anchored.specs.Ceiling.{further_step, sum_steps, capped, ceiling_within, ceiling_from, ceiling, walks_within, walks, outdone}
 use Rattle.anchored.proofs.Core.{layer-le}
-use Rattle.anchored.proofs.Candidates.{further-free, further-layer, further_i, walk_free, candidate_walk, follower_candidate}
+use Rattle.anchored.proofs.Candidates.{walk_free, candidate_walk, follower_candidate}
 use Rattle.anchored.proofs.Choice.{choice_of_greatest, choice_of-some, choice_of-skips}
 -- the computed cases come before the theorems, so that a wrong definition is refused at a figure
 use Rattle.anchored.specs.CeilingCases.{ceiling-cases}
+
+-- ---- a further step
+
+-- what a further step is
+module _ (G : Graph) (A : ℕ → Bool) (u w : ℕ) where
+  abbrev alike : Bool
+  alike = not (A w) && eqb (level G A u) (level G A w)
+
+  pub further-free : T (further_step G A u w) → T (not (A w))
+  unfolding further_step
+  further-free t = and_l (not (A w)) _ (and_l alike _ t)
+
+  pub further-level : T (further_step G A u w) → level G A u ≡ level G A w
+  unfolding further_step
+  further-level t = eqb→eq (level G A u) (level G A w) (and_r (not (A w)) _ (and_l alike _ t))
+
+  pub further-layer : T (further_step G A u w) → layer G A u < layer G A w
+  unfolding further_step
+  further-layer t = leb→le (suc (layer G A u)) (layer G A w) (and_r alike _ t)
+
+  pub further_i : T (not (A w)) → level G A u ≡ level G A w → layer G A u < layer G A w → T (further_step G A u w)
+  unfolding further_step
+  further_i a e h = and_i alike _ (and_i (not (A w)) _ a (eqb_of (level G A u) (level G A w) e)) (le→leb (suc (layer G A u)) (layer G A w) h)
 
 -- ---- sums over steps
 

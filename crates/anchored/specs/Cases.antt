@@ -9,7 +9,7 @@ use Rattle.finite.specs.Pairs.{pair_le}
 use Rattle.anchored.specs.Graph.{Graph}
 use Rattle.anchored.specs.Core.{batch, core, level, shell, layer, greater, higher}
 use Rattle.anchored.specs.Component.{joins, around, component, together, heads, component_size, ranked}
-use Rattle.anchored.specs.Followers.{follows, followers, follower_count, first_step, further_step, onward, candidates, reached, reached_count, mark}
+use Rattle.anchored.specs.Followers.{follows, followers, follower_count, first_step, onward, candidates, reached, reached_count, mark}
 use Rattle.anchored.specs.Yield.{bare_level, climb, net, net_yield, climbed, choice_of, choice}
 use Rattle.anchored.specs.Collapse.{falls, fall_mark, exposed}
 use Rattle.anchored.specs.Sheet.{is_defined, misplaced, too_high, too_low, too_late, fits, is_local}
@@ -148,5 +148,5 @@ pub cases :
     × (collapse_of kite (among []) 1 ≡ (1 ∷ 0 ∷ 1 ∷ 0 ∷ []) ∷ (1 ∷ 1 ∷ 1 ∷ 0 ∷ []) ∷ [])
     × (collapse_of chain (among (0 ∷ 3 ∷ [])) 0 ≡ (0 ∷ 1 ∷ 1 ∷ 0 ∷ []) ∷ (0 ∷ 1 ∷ 1 ∷ 0 ∷ []) ∷ [])
     × (collapse_of star (among (1 ∷ [])) 1 ≡ (0 ∷ 0 ∷ 0 ∷ 0 ∷ []) ∷ (1 ∷ 0 ∷ 1 ∷ 1 ∷ []) ∷ [])
-unfolding tabulate below count sum any all first_from first largest best_in choice_in select falling keep having rounds grow pair_le batch core level shell layer greater higher joins around component together heads component_size ranked follows followers follower_count first_step further_step onward candidates reached reached_count mark bare_level climb net net_yield climbed choice_of choice falls fall_mark exposed is_defined misplaced too_high too_low too_late fits is_local above same_inside undisturbed sees_disturbed sees_new moved recomputed status_of row_of turn after gained
+unfolding tabulate below count sum any all first_from first largest best_in choice_in select falling keep having rounds grow pair_le batch core level shell layer greater higher joins around component together heads component_size ranked follows followers follower_count first_step onward candidates reached reached_count mark bare_level climb net net_yield climbed choice_of choice falls fall_mark exposed is_defined misplaced too_high too_low too_late fits is_local above same_inside undisturbed sees_disturbed sees_new moved recomputed status_of row_of turn after gained
 cases = (refl, refl, refl, refl, refl, refl, refl, refl, refl, refl, refl, refl, refl, refl, refl, refl, refl, refl, refl, refl, refl, refl, refl, refl, refl, refl, refl, refl, refl, refl, refl, refl, refl, refl, refl, refl, refl, refl, refl, refl, refl, refl, refl, refl, refl, refl, refl, refl)

@@ -1,9 +1,10 @@
 -- Document 02, card 11: the ceiling of a search, told before it: the upper bound of source document 000.
-use Rattle.std.specs.Prelude.{Bool, not, cond, List, ℕ, zero, suc, ◌+◌, min, pos, ◌-ℤ◌}
+use Rattle.std.specs.Prelude.{Bool, not, ◌&&◌, cond, List, ℕ, zero, suc, ◌+◌, min, eqb, ltb, pos, ◌-ℤ◌}
 use Rattle.std.specs.Int.Signed.{le_z}
 use Rattle.finite.specs.Count.{sum}
 use Rattle.anchored.specs.Graph.{Graph}
-use Rattle.anchored.specs.Followers.{first_step, further_step}
+use Rattle.anchored.specs.Core.{level, layer}
+use Rattle.anchored.specs.Followers.{first_step}
 use Rattle.anchored.specs.Yield.{climb, net}
 
 -- the sum, over the vertices of a list that are steps, of 1 plus the ceiling from there
@@ -13,6 +14,11 @@ sum_steps steps from list = sum (λ w. cond (steps w) (1 + from w) 0) list
 -- the cap of a ceiling
 abbrev pub capped : ℕ → ℕ
 capped m = min 65535 m
+
+module _ (G : Graph) (A : ℕ → Bool) where
+  -- a further step, from u to a neighbor w: not anchored, of the same level and greater layer; as `Walk` and `onward` have it
+  unfoldable pub further_step : ℕ → ℕ → Bool
+  further_step u w = not (A w) && eqb (level G A u) (level G A w) && ltb (layer G A u) (layer G A w)
 
 module _ (G : Graph) (A : ℕ → Bool) where
   -- the ceiling from u, for walks of at most `steps` steps

@@ -6,9 +6,9 @@ use Rattle.finite.specs.Sets.{keep, having, rounds, grow}
 use Rattle.finite.specs.Pairs.{pair_le}
 use Rattle.anchored.specs.Graph.{Graph}
 use Rattle.anchored.specs.Core.{batch, core, level, shell, layer, greater}
-use Rattle.anchored.specs.Followers.{follows, followers, first_step, further_step, onward, candidates, reached}
+use Rattle.anchored.specs.Followers.{follows, followers, first_step, onward, candidates, reached}
 use Rattle.anchored.specs.Yield.{bare_level, climb, net}
-use Rattle.anchored.specs.Ceiling.{sum_steps, ceiling_within, ceiling_from, ceiling, walks_within, walks, outdone}
+use Rattle.anchored.specs.Ceiling.{further_step, sum_steps, ceiling_within, ceiling_from, ceiling, walks_within, walks, outdone}
 use Rattle.anchored.specs.Cases.{graph, chain, kite, broom, among}
 
 -- from 3 a walk goes on to 1 and to 0, and from 1 to 0

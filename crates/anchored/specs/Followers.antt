@@ -27,18 +27,14 @@ module _ (G : Graph) (A : ℕ → Bool) where
   unfoldable pub first_step : ℕ → ℕ → Bool
   first_step x v = not (A v) && member v (G.neighbors x) && greater G A v x
 
-  -- a further step, from u to a neighbor w: not anchored, of the same level and greater layer
-  unfoldable pub further_step : ℕ → ℕ → Bool
-  further_step u w = not (A w) && eqb (level G A u) (level G A w) && ltb (layer G A u) (layer G A w)
-
   -- an upstair walk from x to v: a first step, and from then on steps to a neighbor, not anchored, of the same level and greater layer
   pub data Walk (x : ℕ) : ℕ → Type 0 where
     start : {v : ℕ} → v < G.size → T (first_step x v) → Walk x v
     step : {w v : ℕ} → Walk x w → v < G.size → T (not (A v)) → In w (G.neighbors v) → level G A w ≡ level G A v → layer G A w < layer G A v → Walk x v
 
-  -- v is a further step from a neighbor already reached
+  -- a further step to v, from a neighbor already reached, of the same level and smaller layer
   unfoldable pub onward : List Bool → ℕ → Bool
-  onward s v = any (λ w. has s w && further_step w v) (G.neighbors v)
+  onward s v = not (A v) && any (λ w. has s w && eqb (level G A w) (level G A v) && ltb (layer G A w) (layer G A v)) (G.neighbors v)
 
   -- the ends of upstair walks from x. Theorem `candidate_iff`
   unfoldable pub candidates : ℕ → List Bool

@@ -1,19 +1,20 @@
 -- The follower search (local search): what it refuses, its answer, and its marks.
-use Rattle.std.specs.Prelude.{List, ℕ}
+use Rattle.std.specs.Prelude.{cond, List, ℕ}
 use Rattle.finite.specs.Count.{tabulate}
 use Rattle.table.specs.Table.{vertices}
 use Rattle.table.specs.Size.{size_of}
-use Rattle.table.specs.Guard.{answer, past}
+use Rattle.table.specs.Guard.{refused, answer, past}
 use Rattle.table.specs.declared.Guard.{Guard}
+use Rattle.table.specs.declared.Guard.TheVariants.{Passed}
 use Rattle.anchored.specs.Followers.{followers, reached, mark}
 use Rattle.pool.specs.Input.{graph_of, anchored_by}
-use Rattle.marking.specs.Marking.{guard_of_free, marking_of}
+use Rattle.marking.specs.Marking.{marking_of}
 use Rattle.search.specs.declared.operation.Searched.{Searched}
 use Rattle.search.specs.declared.operation.Searched.TheVariants.{Found, Refused}
 
 -- 1 to 10, 12, 13, 14, 19, 20, 21 and 15, as `marking_of` has them, then 16 for an anchored x, at x
 unfoldable pub search_of : List ℕ → List ℕ → List ℕ → List ℕ → List ℕ → ℕ → ℕ → Guard
-search_of s l a lev lay x m = past (marking_of s l a lev lay x m) (guard_of_free a x)
+search_of s l a lev lay x m = past (marking_of s l a lev lay x m) (cond (anchored_by a x) (refused 16 x) Passed)
 
 -- the answer: a refusal, or x's follower count (riders lifted), its reached count, and the size of the table
 unfoldable pub followers_of : List ℕ → List ℕ → List ℕ → List ℕ → List ℕ → ℕ → ℕ → Searched

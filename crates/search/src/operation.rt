@@ -31,7 +31,12 @@ fn test_search(
     let tested = marking::test_marking(starts, links, anchored, levels, layers, x, room);
     match tested {
         table::Guard::Refused(refusal) => table::Guard::Refused(refusal),
-        table::Guard::Passed => marking::test_free(anchored, x),
+        table::Guard::Passed => {
+            if anchored[x] == 1 {
+                return table::refused(16, x);
+            }
+            table::Guard::Passed
+        }
     }
 }
 

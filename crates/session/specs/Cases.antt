@@ -14,7 +14,7 @@ use Rattle.table.specs.declared.Guard.TheVariants.{Passed}
 use Rattle.anchored.specs.Edge.{link_count}
 use Rattle.anchored.specs.Core.{batch, core, level, shell, layer, greater, higher}
 use Rattle.anchored.specs.Component.{joins, around, component, together}
-use Rattle.anchored.specs.Followers.{follows, followers, first_step, further_step, onward, candidates, reached, reached_count, mark}
+use Rattle.anchored.specs.Followers.{follows, followers, first_step, onward, candidates, reached, reached_count, mark}
 use Rattle.anchored.specs.Yield.{bare_level, climb, net, net_yield}
 use Rattle.anchored.specs.Sheet.{misplaced, too_high, too_low, too_late}
 use Rattle.anchored.specs.Step.{above, same_inside, undisturbed, sees_disturbed, sees_new, moved, recomputed}
@@ -97,5 +97,5 @@ pub cases :
     × (session chain none (lists (0 ∷ 1 ∷ 2 ∷ []) (0 ∷ 0 ∷ 1 ∷ []) (7 ∷ 3 ∷ 2 ∷ [])) ≡ (0 ∷ 0 ∷ 0 ∷ []) ∷ (0 ∷ 0 ∷ 0 ∷ []) ∷ (2 ∷ 3 ∷ 3 ∷ []) ∷ (1 ∷ 3 ∷ 3 ∷ 3 ∷ []) ∷ (65535 ∷ 0 ∷ 1 ∷ 0 ∷ []) ∷ [])
     -- 9 for lists not of one length comes before 10
     × (called chain (0 ∷ 2 ∷ 0 ∷ 0 ∷ []) (lists (0 ∷ []) (0 ∷ []) []) ∷ called chain (0 ∷ 2 ∷ 0 ∷ 0 ∷ []) (anchoring []) ∷ [] ≡ refused 9 0 ∷ refused 10 1 ∷ [])
-unfolding answer tabulate below count sum any all first_from first largest greatest_of ascending keep having rounds grow pair_le insert remove neighbors bad_start beyond looped unsorted unreturned check_of edges_of size_of check_lent link_count batch core level shell layer greater higher joins around component together follows followers first_step further_step onward candidates reached reached_count mark bare_level climb net net_yield misplaced too_high too_low too_late above same_inside undisturbed sees_disturbed sees_new moved recomputed status_of row_of turn edge_status event_status event_row event_turn after_events admit_of sheet_of check_sheet_of vertex_of marking_of search_of followers_of admit_run
+unfolding answer tabulate below count sum any all first_from first largest greatest_of ascending keep having rounds grow pair_le insert remove neighbors bad_start beyond looped unsorted unreturned check_of edges_of size_of check_lent link_count batch core level shell layer greater higher joins around component together follows followers first_step onward candidates reached reached_count mark bare_level climb net net_yield misplaced too_high too_low too_late above same_inside undisturbed sees_disturbed sees_new moved recomputed status_of row_of turn edge_status event_status event_row event_turn after_events admit_of sheet_of check_sheet_of vertex_of marking_of search_of followers_of admit_run
 cases = (refl, refl, refl, refl, refl, refl, refl, refl, refl, refl, refl, refl, refl, refl, refl)

@@ -9,40 +9,40 @@ use borrow.Author.Rules.{rules}
 use Rattle.marking.proofs.test_vertex.Statement.{statement}
 use Rattle.marking.proofs.test_vertex.Tie as tie
 
-abbrev entry : tie.After-test-sheet → tie.Start
+abbrev entry : tie.After-test_sheet-accepted → tie.Start
 entry c = c.before.before.before.before.before.before
 
-told : (c : tie.After-enum-told) → let args = (entry c.before.before).args in
+told : (c : tie.In-Passed) → let args = (entry c.before).args in
     sheet_of args.starts.now args.links.now args.anchored.now args.levels.now args.layers.now ≡ Passed
-told c = sym c.before.before.test-sheet.ensures ∙ c.enum_told.given.1
+told c = sym c.test_sheet-accepted.ensures ∙ c.in-Passed.is
 
-test-sheet-requires : tie.Need-test-sheet-requires
-test-sheet-requires c κs = c.before.before.before.before.before.requires
+test-sheet-requires : tie.Need-test_sheet-accepted-requires
+test-sheet-requires c κs = c.requires
 
-enum-known-accepted : tie.Need-enum-known-accepted
+enum-known-accepted : tie.Need-enum_known-accepted
 enum-known-accepted c = search rules
 
-enum_told : tie.Need-enum-told
+enum_told : tie.Need-enum_told-1
 enum_told c = search rules
 
-sub-if1 : tie.Need-overflow-sub-if1
-sub-if1 c = (entry c.before.before).requires.table.framed.some
+sub-if1 : tie.Need-overflow_sub-starts
+sub-if1 c = (entry c.before).requires.table.framed.some
 
 refused-requires : tie.Need-refused-requires
 refused-requires c κs = search rules
 
-returns : tie.Need-returns
-returns c = c.refused.ensures ∙ sym (vertex-beyond _ _ _ _ _ _ (told c.before.before) c.before.if1.true)
+returns : tie.Need-returns-then-starts-x
+returns c = c.refused.ensures ∙ sym (vertex-beyond _ _ _ _ _ _ (told c.before.before) c.if-starts-x.true)
 
-returns-2 : tie.Need-returns-2
+returns-2 : tie.Need-returns-in-Refused
 unfolding vertex_of
-returns-2 c = sym (handed _ _ (sym c.before.before.before.test-sheet.ensures ∙ c.before.accepted.given.1))
+returns-2 c = sym (handed _ _ (sym c.test_sheet-accepted.ensures ∙ c.in-Refused.is))
 
-returns-3 : tie.Need-returns-3
-returns-3 c = sym (vertex-within _ _ _ _ _ _ (told c.before) c.if1.false)
+returns-3 : tie.Need-returns-else-starts-x
+returns-3 c = sym (vertex-within _ _ _ _ _ _ (told c.before) c.if-starts-x.false)
 
-pub test-vertex-spec : {M : Type 1} → statement M
-test-vertex-spec =
+pub test_vertex_spec : {M : Type 1} → statement M
+test_vertex_spec =
     tie.close
     (tie.spec
     test-sheet-requires

@@ -15,170 +15,152 @@ use Rattle.support.proofs.settle.Statement.{statement}
 use Rattle.support.proofs.settle.Tie as tie
 use borrow.Author.Rules.{rules}
 
-abbrev invariant-loop2 : tie.invariant-loop2
-invariant-loop2 starts links levels marks₀ support₀ struck₀ weak end₀ head u part j₀ marks support struck end j = (j ≤ length part) × (head < end) × (take (head + 1) struck ≡ take (head + 1) struck₀) × ((S : ℕ → ℕ) (C : ℕ → Bool) → Striking starts links levels S C (loss_of starts links levels (take head struck₀)) (state marks₀ support₀ struck₀ end₀) → Striking starts links levels S C (lost_to starts links levels (take head struck₀) u (take j (neighbors_of starts links u))) (state marks support struck end))
+abbrev invariant-loop-j : tie.invariant-loop-j
+invariant-loop-j starts links levels marks₀ support₀ struck₀ weak end₀ head u part j₀ marks support struck end j = (j ≤ length part) × (head < end) × (take (head + 1) struck ≡ take (head + 1) struck₀) × ((S : ℕ → ℕ) (C : ℕ → Bool) → Striking starts links levels S C (loss_of starts links levels (take head struck₀)) (state marks₀ support₀ struck₀ end₀) → Striking starts links levels S C (lost_to starts links levels (take head struck₀) u (take j (neighbors_of starts links u))) (state marks support struck end))
 
-abbrev decreases-loop2 : tie.decreases-loop2
-decreases-loop2 starts links levels marks₀ support₀ struck₀ weak end₀ head u part j₀ marks support struck end j = length part - j
+abbrev decreases-loop-j : tie.decreases-loop-j
+decreases-loop-j starts links levels marks₀ support₀ struck₀ weak end₀ head u part j₀ marks support struck end j = length part - j
 
-abbrev invariant-loop : tie.invariant-loop
-invariant-loop starts links levels marks₀ support₀ struck₀ weak end₀ head₀ marks support struck end head = (head ≤ end) × Striking starts links levels (λ v. get_or support₀ v 0) (marked marks₀) (loss_of starts links levels (take head struck)) (state marks support struck end)
+abbrev invariant-loop-head : tie.invariant-loop-head
+invariant-loop-head starts links levels marks₀ support₀ struck₀ weak end₀ head₀ marks support struck end head = (head ≤ end) × Striking starts links levels (λ v. get_or support₀ v 0) (marked marks₀) (loss_of starts links levels (take head struck)) (state marks support struck end)
 
-abbrev decreases-loop : tie.decreases-loop
-decreases-loop starts links levels marks₀ support₀ struck₀ weak end₀ head₀ marks support struck end head = vertices starts - head
+abbrev decreases-loop-head : tie.decreases-loop-head
+decreases-loop-head starts links levels marks₀ support₀ struck₀ weak end₀ head₀ marks support struck end head = vertices starts - head
 
 -- the support and the candidates at the start
-abbrev support_at : tie.Start invariant-loop2 decreases-loop2 invariant-loop decreases-loop → ℕ → ℕ
+abbrev support_at : tie.Start invariant-loop-j decreases-loop-j invariant-loop-head decreases-loop-head → ℕ → ℕ
 support_at c v = get_or c.args.support.now v 0
 
-abbrev candidate_at : tie.Start invariant-loop2 decreases-loop2 invariant-loop decreases-loop → ℕ → Bool
+abbrev candidate_at : tie.Start invariant-loop-j decreases-loop-j invariant-loop-head decreases-loop-head → ℕ → Bool
 candidate_at c = marked c.args.marks.now
 
 -- the list of those struck out fits
-within : (c : tie.At-loop invariant-loop2 decreases-loop2 invariant-loop decreases-loop) → c.loop.end ≤ vertices c.before.before.before.before.args.starts.now
-within c = out_within c.loop.invariant.1.listed
+within : (c : tie.At-loop-head invariant-loop-j decreases-loop-j invariant-loop-head decreases-loop-head) → c.loop-head.end ≤ vertices c.args.starts.now
+within c = out_within c.loop-head.invariant.1.listed
 
 -- the one withdrawn is a vertex
 vertex :
-    (c : tie.In-loop invariant-loop2 decreases-loop2 invariant-loop decreases-loop) →
-    get_or c.before.loop.struck c.before.loop.head 0 < vertices c.before.before.before.before.before.args.starts.now
-vertex c = let at = c.before.loop in here-vertex at.invariant.1.listed at.head c.loop-test.true
+    (c : tie.In-loop-head invariant-loop-j decreases-loop-j invariant-loop-head decreases-loop-head) →
+    get_or c.loop-head.struck c.loop-head.head 0 < vertices c.args.starts.now
+vertex c = let at = c.loop-head in here-vertex at.invariant.1.listed at.head c.loop-head-test.true
 
 -- what holds of the state in the inner loop
 inner :
-    (c : tie.At-loop2 invariant-loop2 decreases-loop2 invariant-loop decreases-loop) →
-    let out = c.before.before.before.before in
-    let start = out.before.before.before.before in
-    let s = start.args.starts.now in
-    let l = start.args.links.now in
-    let u = get_or out.loop.struck out.loop.head 0 in
-    Striking s l start.args.levels.now (support_at start) (candidate_at start) (lost_to s l start.args.levels.now (take out.loop.head out.loop.struck) u (take c.loop2.j (neighbors_of s l u))) (state c.loop2.marks c.loop2.support c.loop2.struck c.loop2.end)
+    (c : tie.At-loop-j invariant-loop-j decreases-loop-j invariant-loop-head decreases-loop-head) →
+    let s = c.args.starts.now in
+    let l = c.args.links.now in
+    let u = get_or c.loop-head.struck c.loop-head.head 0 in
+    Striking s l c.args.levels.now (support_at c.before.before.before.before.before.before.before.before.before) (candidate_at c.before.before.before.before.before.before.before.before.before) (lost_to s l c.args.levels.now (take c.loop-head.head c.loop-head.struck) u (take c.loop-j.j (neighbors_of s l u))) (state c.loop-j.marks c.loop-j.support c.loop-j.struck c.loop-j.end)
 inner c =
-    let out = c.before.before.before.before in
-    let start = out.before.before.before.before in
-    c.loop2.invariant.3 (support_at start) (candidate_at start) out.loop.invariant.1
+    c.loop-j.invariant.3 (support_at c.before.before.before.before.before.before.before.before.before) (candidate_at c.before.before.before.before.before.before.before.before.before) c.loop-head.invariant.1
 
 -- its neighbor looked at is a vertex
 neighbor :
-    (c : tie.In-loop2 invariant-loop2 decreases-loop2 invariant-loop decreases-loop) →
-    get_or c.before.before.neighbors.result.now c.before.loop2.j 0 < vertices c.before.before.before.before.before.before.before.before.before.args.starts.now
+    (c : tie.In-loop-j invariant-loop-j decreases-loop-j invariant-loop-head decreases-loop-head) →
+    get_or c.neighbors-part.result.now c.loop-j.j 0 < vertices c.args.starts.now
 neighbor c =
-    let in-loop = c.before.before.before.before in
-    let start = in-loop.before.before.before.before.before in
-    let part = c.before.before.neighbors.result.now in
-    let w = get_or part c.before.loop2.j 0 in
-    start.requires.0.range (get_or in-loop.before.loop.struck in-loop.before.loop.head 0) w (vertex in-loop) (subst (In w) c.before.before.neighbors.ensures (in_at part c.before.loop2.j 0 c.loop2-test.true))
+    let part = c.neighbors-part.result.now in
+    let w = get_or part c.loop-j.j 0 in
+    c.requires.0.range (get_or c.loop-head.struck c.loop-head.head 0) w (vertex c.before.before.before.before.before) (subst (In w) c.neighbors-part.ensures (in_at part c.loop-j.j 0 c.loop-j-test.true))
 
-loop-holds : tie.Need-loop-init invariant-loop2 decreases-loop2 invariant-loop decreases-loop
+loop-holds : tie.Need-loop-head-init invariant-loop-j decreases-loop-j invariant-loop-head decreases-loop-head
 loop-holds c =
-    let start = c.before.before.before in
-    (search rules, settle_start start.requires.0 start.requires.1.1)
+    (search rules, settle_start c.requires.0 c.requires.1.1)
 
-mul-u : tie.Need-overflow-mul-u invariant-loop2 decreases-loop2 invariant-loop decreases-loop
-mul-u c = omega (arith, within c.before, c.before.before.before.before.before.requires.0.small)
+mul-u : tie.Need-offset_bounds-struck-head invariant-loop-j decreases-loop-j invariant-loop-head decreases-loop-head
+mul-u c = omega (arith, within c.before, c.requires.0.small)
 
-element-copy-out-u : tie.Need-element-copy-out-u invariant-loop2 decreases-loop2 invariant-loop decreases-loop
-element-copy-out-u c = omega (arith, within c.before, c.before.before.before.before.before.requires.0.small)
+element-copy-out-u : tie.Need-bounds-struck-head invariant-loop-j decreases-loop-j invariant-loop-head decreases-loop-head
+element-copy-out-u c = omega (arith, within c.before.before, c.requires.0.small)
 
-cast-u : tie.Need-overflow-cast-u invariant-loop2 decreases-loop2 invariant-loop decreases-loop
-cast-u c = omega (arith, vertex c.before, c.before.before.before.before.before.before.requires.0.small)
+cast-u : tie.Need-overflow_cast-u invariant-loop-j decreases-loop-j invariant-loop-head decreases-loop-head
+cast-u c = omega (arith, vertex c.before.before, c.requires.0.small)
 
-neighbors-requires : tie.Need-neighbors-requires invariant-loop2 decreases-loop2 invariant-loop decreases-loop
-neighbors-requires c κs = (c.before.before.before.before.before.before.requires.0.framed, vertex c.before)
+neighbors-requires : tie.Need-neighbors-part-requires invariant-loop-j decreases-loop-j invariant-loop-head decreases-loop-head
+neighbors-requires c κs = (c.requires.0.framed, vertex c.before.before)
 
-loop2-holds : tie.Need-loop2-init invariant-loop2 decreases-loop2 invariant-loop decreases-loop
+loop2-holds : tie.Need-loop-j-init invariant-loop-j decreases-loop-j invariant-loop-head decreases-loop-head
 loop2-holds c =
-    let in-loop = c.before.before in
-    let start = in-loop.before.before.before.before.before in
-    (omega arith, in-loop.loop-test.true, refl, λ S C k. withdraw_start start.requires.0 in-loop.before.loop.head k in-loop.loop-test.true)
+    (omega arith, c.loop-head-test.true, refl, λ S C k. withdraw_start c.requires.0 c.loop-head.head k c.loop-head-test.true)
 
-mul-weaken : tie.Need-overflow-mul-weaken invariant-loop2 decreases-loop2 invariant-loop decreases-loop
+mul-weaken : tie.Need-offset_bounds-part-j invariant-loop-j decreases-loop-j invariant-loop-head decreases-loop-head
 mul-weaken c = search rules
 
-shared-slice-read-weaken : tie.Need-shared-slice-read-weaken invariant-loop2 decreases-loop2 invariant-loop decreases-loop
+shared-slice-read-weaken : tie.Need-bounds-part-j invariant-loop-j decreases-loop-j invariant-loop-head decreases-loop-head
 shared-slice-read-weaken c = search rules
 
-cast-weaken : tie.Need-overflow-cast-weaken invariant-loop2 decreases-loop2 invariant-loop decreases-loop
-cast-weaken c = omega (arith, c.shared-slice-known4.given c.before.before.loop2.j)
+cast-weaken : tie.Need-overflow_cast-part invariant-loop-j decreases-loop-j invariant-loop-head decreases-loop-head
+cast-weaken c = omega (arith, c.shared_slice_known-in-loop-j-1.given c.loop-j.j)
 
-weaken-requires : tie.Need-weaken-requires invariant-loop2 decreases-loop2 invariant-loop decreases-loop
+weaken-requires : tie.Need-weaken-end-requires invariant-loop-j decreases-loop-j invariant-loop-head decreases-loop-head
 weaken-requires c κs =
-    let in-loop2 = c.before.before.before.before in
-    let in-loop = in-loop2.before.before.before.before in
-    let at = in-loop2.before.loop2 in
-    let start = in-loop.before.before.before.before.before in
-    let w = get_or in-loop2.before.before.neighbors.result.now at.j 0 in
-    let k = inner in-loop2.before in
-    let b = neighbor in-loop2 in (
-      omega (arith, vertex in-loop, start.requires.1.0),
+    let at = c.loop-j in
+    let w = get_or c.neighbors-part.result.now at.j 0 in
+    let k = inner c.before.before.before.before.before in
+    let b = neighbor c.before.before.before.before in (
+      omega (arith, vertex c.before.before.before.before.before.before.before.before.before, c.requires.1.0),
       (
-        omega (arith, b, start.requires.1.0),
+        omega (arith, b, c.requires.1.0),
         (
-          omega (arith, b, start.requires.0.small),
+          omega (arith, b, c.requires.0.small),
           λ m.
               let alive = still_in k.listed w m in
-              (omega (arith, k.strong w alive.0 alive.1), omega (arith, start.requires.0.small, out-room k.listed w alive.0 alive.1)),
+              (omega (arith, k.strong w alive.0 alive.1), omega (arith, c.requires.0.small, out-room k.listed w alive.0 alive.1)),
         ),
       ),
     )
 
-add-j : tie.Need-overflow-add-j invariant-loop2 decreases-loop2 invariant-loop decreases-loop
+add-j : tie.Need-overflow_add-j invariant-loop-j decreases-loop-j invariant-loop-head decreases-loop-head
 add-j c = search rules
 
-loop2-less : tie.Need-loop2-smaller invariant-loop2 decreases-loop2 invariant-loop decreases-loop
+loop2-less : tie.Need-loop-j-smaller invariant-loop-j decreases-loop-j invariant-loop-head decreases-loop-head
 loop2-less c = search rules
 
-loop2-again : tie.Need-loop2-preserved invariant-loop2 decreases-loop2 invariant-loop decreases-loop
+loop2-again : tie.Need-loop-j-preserved invariant-loop-j decreases-loop-j invariant-loop-head decreases-loop-head
 loop2-again c =
-    let in-loop2 = c.before.before.before.before.before in
-    let in-loop = in-loop2.before.before.before.before in
-    let at = in-loop2.before.loop2 in
-    let out = in-loop.before.loop in
-    let start = in-loop.before.before.before.before.before in
-    let args = start.args in
+    let at = c.loop-j in
+    let out = c.loop-head in
+    let args = c.args in
     let levels = args.levels.now in
-    let part = in-loop2.before.before.neighbors.result.now in
+    let part = c.neighbors-part.result.now in
     let u = get_or out.struck out.head 0 in
     let w = get_or part at.j 0 in
     let st = state at.marks at.support at.struck at.end in
-    let e = c.weaken.ensures in
-    let is-part = in-loop2.before.before.neighbors.ensures in
+    let e = c.weaken-end.ensures in
+    let is-part = c.neighbors-part.ensures in
     let place : w ≡ get_or (neighbors_of args.starts.now args.links.now u) at.j 0 = ap (λ p. get_or p at.j 0) is-part in (
       omega arith,
       omega (arith, at.invariant.1, weaken_end levels u w st, ap (λ r. r.end) e),
       ap (λ r. take (out.head + 1) r.struck) e ∙ weaken_front levels u w st (out.head + 1) (omega (arith, at.invariant.1)) ∙ at.invariant.2,
-      λ S C k. rw (e, place) (withdraw_next start.requires.0 out.head k in-loop.loop-test.true at.j (rw is-part at in-loop2.loop2-test.true) (at.invariant.1, at.invariant.2) (at.invariant.3 S C k)),
+      λ S C k. rw (e, place) (withdraw_next c.requires.0 out.head k c.loop-head-test.true at.j (rw is-part at c.loop-j-test.true) (at.invariant.1, at.invariant.2) (at.invariant.3 S C k)),
     )
 
-add-head : tie.Need-overflow-add-head invariant-loop2 decreases-loop2 invariant-loop decreases-loop
-add-head c = omega (arith, within c.before.before.before.before.before, c.before.before.before.before.before.before.before.before.before.requires.0.small)
+add-head : tie.Need-overflow_add-head invariant-loop-j decreases-loop-j invariant-loop-head decreases-loop-head
+add-head c = omega (arith, within c.before.before.before.before.before.before, c.requires.0.small)
 
-loop-less : tie.Need-loop-smaller invariant-loop2 decreases-loop2 invariant-loop decreases-loop
-loop-less c = omega (arith, within c.before.before.before.before.before)
+loop-less : tie.Need-loop-head-smaller invariant-loop-j decreases-loop-j invariant-loop-head decreases-loop-head
+loop-less c = omega (arith, within c.before.before.before.before.before.before)
 
-loop-again : tie.Need-loop-preserved invariant-loop2 decreases-loop2 invariant-loop decreases-loop
+loop-again : tie.Need-loop-head-preserved invariant-loop-j decreases-loop-j invariant-loop-head decreases-loop-head
 loop-again c =
-    let in-loop = c.before.before.before.before in
-    let at = c.before.loop2 in
-    let out = in-loop.before.loop in
-    let start = in-loop.before.before.before.before.before in
-    let is-part = c.before.before.neighbors.ensures in
-    (omega (arith, at.invariant.1), withdraw_end start.requires.0 out.head out.invariant.1 in-loop.loop-test.true (at.invariant.1, at.invariant.2) at.j (rw is-part at c.loop2-test.false) (inner c.before))
+    let at = c.loop-j in
+    let out = c.loop-head in
+    let is-part = c.neighbors-part.ensures in
+    (omega (arith, at.invariant.1), withdraw_end c.requires.0 out.head out.invariant.1 c.loop-head-test.true (at.invariant.1, at.invariant.2) at.j (rw is-part at c.loop-j-test.false) (inner c.before))
 
-returns : tie.Need-returns invariant-loop2 decreases-loop2 invariant-loop decreases-loop
+returns : tie.Need-returns invariant-loop-j decreases-loop-j invariant-loop-head decreases-loop-head
 returns c =
-    let start = c.before.before.before.before.before in
-    let at = c.before.loop in
-    settle_end start.requires.0 at.head at.invariant.0 c.loop-test.false at.invariant.1
+    let at = c.loop-head in
+    settle_end c.requires.0 at.head at.invariant.0 c.loop-head-test.false at.invariant.1
 
-pub settle-spec : {M : Type 1} → statement M
-settle-spec =
+pub settle_spec : {M : Type 1} → statement M
+settle_spec =
     tie.close
     (tie.spec
-    invariant-loop2
-    decreases-loop2
-    invariant-loop
-    decreases-loop
+    invariant-loop-j
+    decreases-loop-j
+    invariant-loop-head
+    decreases-loop-head
     loop-holds
     mul-u
     element-copy-out-u

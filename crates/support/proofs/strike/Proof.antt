@@ -5,43 +5,43 @@ use borrow.Author.Rules.{rules}
 use Rattle.support.proofs.strike.Statement.{statement}
 use Rattle.support.proofs.strike.Tie as tie
 
-mul-if1 : tie.Need-overflow-mul-if1
+mul-if1 : tie.Need-offset_bounds-levels-v
 mul-if1 c = search rules
 
-shared-slice-read-if1 : tie.Need-shared-slice-read-if1
+shared-slice-read-if1 : tie.Need-bounds-levels-v
 shared-slice-read-if1 c = search rules
 
-mul-if1-2 : tie.Need-overflow-mul-if1-2
+mul-if1-2 : tie.Need-offset_bounds-support-v
 mul-if1-2 c = search rules
 
-element-copy-out-if1 : tie.Need-element-copy-out-if1
+element-copy-out-if1 : tie.Need-bounds-support-v
 element-copy-out-if1 c = search rules
 
-returns : tie.Need-returns
+returns : tie.Need-returns-then-levels-v
 unfolding strike_of
-returns c = simp (lt-ltb _ _ c.if1.true)
+returns c = simp (lt-ltb _ _ c.if-levels-v.true)
 
-element-write-marks : tie.Need-element-write-marks
+element-write-marks : tie.Need-bounds-marks-v
 element-write-marks c = search rules
 
-cast-struck : tie.Need-overflow-cast-struck
+cast-struck : tie.Need-overflow_cast-struck
 cast-struck c = search rules
 
-mul-struck : tie.Need-overflow-mul-struck
+mul-struck : tie.Need-offset_bounds-struck-end
 mul-struck c = search rules
 
-element-write-struck : tie.Need-element-write-struck
+element-write-struck : tie.Need-bounds-struck-end
 element-write-struck c = search rules
 
-add-result : tie.Need-overflow-add-result
+add-result : tie.Need-overflow_add-result
 add-result c = search rules
 
-returns-2 : tie.Need-returns-2
+returns-2 : tie.Need-returns
 unfolding strike_of
-returns-2 c = simp (le-ltb _ _ c.if1.false)
+returns-2 c = simp (le-ltb _ _ c.if-levels-v.false)
 
-pub strike-spec : {M : Type 1} → statement M
-strike-spec =
+pub strike_spec : {M : Type 1} → statement M
+strike_spec =
     tie.close
     (tie.spec
     mul-if1

@@ -6,57 +6,55 @@ use borrow.Author.Rules.{rules}
 use Rattle.support.proofs.supports.Statement.{statement}
 use Rattle.support.proofs.supports.Tie as tie
 
-shared-slice-read-if1 : tie.Need-shared-slice-read-if1
+shared-slice-read-if1 : tie.Need-bounds-anchored-p
 shared-slice-read-if1 c = search rules
 
-returns : tie.Need-returns
+returns : tie.Need-returns-then-anchored-p-eq1
 unfolding supports_of
-returns c = simp (eq-eqb _ _ c.if1.true)
+returns c = simp (eq-eqb _ _ c.if-anchored-p-eq1.true)
 
-returns-2 : tie.Need-returns-2
+returns-2 : tie.Need-returns-then-x-p
 unfolding supports_of
-returns-2 c = simp (ne_eqb _ _ c.before.if1.false, eq-eqb _ _ c.if2.true)
+returns-2 c = simp (ne_eqb _ _ c.if-anchored-p-eq1.false, eq-eqb _ _ c.if-x-p.true)
 
-is-higher-requires : tie.Need-is-higher-requires
+is-higher-requires : tie.Need-is_higher-requires
 is-higher-requires c κs = search rules
 
-returns-3 : tie.Need-returns-3
+returns-3 : tie.Need-returns-then-is_higher
 unfolding supports_of
 returns-3 c =
-    let higher = sym c.before.is-higher.ensures ∙ c.if3.true in
-    simp (ne_eqb _ _ c.before.before.before.if1.false, ne_eqb _ _ c.before.before.if2.false, higher)
+    let higher = sym c.is_higher.ensures ∙ c.if-is_higher.true in
+    simp (ne_eqb _ _ c.if-anchored-p-eq1.false, ne_eqb _ _ c.if-x-p.false, higher)
 
-element-copy-out-if4 : tie.Need-element-copy-out-if4
+element-copy-out-if4 : tie.Need-bounds-marks-p
 element-copy-out-if4 c = search rules
 
-returns-4 : tie.Need-returns-4
+returns-4 : tie.Need-returns-then-marks-p-eq0
 unfolding supports_of
 returns-4 c =
-    let past = c.before.before.before.before in
-    let higher = sym c.before.before.before.is-higher.ensures ∙ c.before.before.if3.false in
-    simp (ne_eqb _ _ past.before.if1.false, ne_eqb _ _ past.if2.false, higher, eq-eqb _ _ c.if4.true)
+    let higher = sym c.is_higher.ensures ∙ c.if-is_higher.false in
+    simp (ne_eqb _ _ c.if-anchored-p-eq1.false, ne_eqb _ _ c.if-x-p.false, higher, eq-eqb _ _ c.if-marks-p-eq0.true)
 
-mul-result : tie.Need-overflow-mul-result
+mul-result : tie.Need-offset_bounds-levels-p
 mul-result c = search rules
 
-shared-slice-read-result : tie.Need-shared-slice-read-result
+shared-slice-read-result : tie.Need-bounds-levels-p
 shared-slice-read-result c = search rules
 
-mul-result-2 : tie.Need-overflow-mul-result-2
+mul-result-2 : tie.Need-offset_bounds-levels-v
 mul-result-2 c = search rules
 
-shared-slice-read-result-2 : tie.Need-shared-slice-read-result-2
+shared-slice-read-result-2 : tie.Need-bounds-levels-v
 shared-slice-read-result-2 c = search rules
 
-returns-5 : tie.Need-returns-5
+returns-5 : tie.Need-returns
 unfolding supports_of
 returns-5 c =
-    let past = c.before.before.before.before.before.before in
-    let higher = sym c.before.before.before.before.before.is-higher.ensures ∙ c.before.before.before.before.if3.false in
-    rw (ne_eqb _ _ past.before.if1.false, ne_eqb _ _ past.if2.false, higher, ne_eqb _ _ c.before.before.if4.false)
+    let higher = sym c.is_higher.ensures ∙ c.if-is_higher.false in
+    rw (ne_eqb _ _ c.if-anchored-p-eq1.false, ne_eqb _ _ c.if-x-p.false, higher, ne_eqb _ _ c.if-marks-p-eq0.false)
 
-pub supports-spec : {M : Type 1} → statement M
-supports-spec =
+pub supports_spec : {M : Type 1} → statement M
+supports_spec =
     tie.close
     (tie.spec
     shared-slice-read-if1

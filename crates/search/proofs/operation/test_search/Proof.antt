@@ -4,7 +4,8 @@ use native.Mathlib.Omega.{arith}
 use Rattle.table.specs.declared.Guard.TheVariants.{Passed}
 use Rattle.marking.specs.Marking.{marking_of}
 use Rattle.marking.proofs.Marking.{marking-sound}
-use Rattle.table.proofs.Guards.{handed, cleared}
+use Rattle.search.proofs.Answers.{search-anchored, search-free}
+use Rattle.table.proofs.Guards.{handed}
 use Rattle.search.specs.Answers.{search_of}
 use borrow.Author.Rules.{rules}
 use Rattle.search.proofs.operation.test_search.Statement.{statement}
@@ -23,18 +24,23 @@ enum-known-tested c = search rules
 enum_told : tie.Need-enum-told
 enum_told c = search rules
 
-test-free-requires : tie.Need-test-free-requires
-test-free-requires c κs =
-    let promised = marking-sound _ _ _ _ _ _ _ (told c) in
+shared-slice-read-if1 : tie.Need-shared-slice-read-if1
+shared-slice-read-if1 c =
+    let promised = marking-sound _ _ _ _ _ _ _ (told c.before) in
     omega (arith, promised.2, promised.0.long)
 
+refused-requires : tie.Need-refused-requires
+refused-requires c κs = search rules
+
 returns : tie.Need-returns
-unfolding search_of
-returns c = sym (handed _ _ (sym c.before.before.before.test-marking.ensures ∙ c.before.tested.given.1))
+returns c = c.refused.ensures ∙ sym (search-anchored _ _ _ _ _ _ _ (told c.before.before.before) c.before.if1.true)
 
 returns-2 : tie.Need-returns-2
 unfolding search_of
-returns-2 c = c.test-free.ensures ∙ sym (cleared _ _ (told c.before))
+returns-2 c = sym (handed _ _ (sym c.before.before.before.test-marking.ensures ∙ c.before.tested.given.1))
+
+returns-3 : tie.Need-returns-3
+returns-3 c = sym (search-free _ _ _ _ _ _ _ (told c.before.before) c.if1.false)
 
 pub test-search-spec : {M : Type 1} → statement M
 test-search-spec =
@@ -43,6 +49,8 @@ test-search-spec =
     test-marking-requires
     enum-known-tested
     enum_told
-    test-free-requires
+    shared-slice-read-if1
+    refused-requires
     returns
-    returns-2)
+    returns-2
+    returns-3)
