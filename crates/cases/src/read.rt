@@ -1,6 +1,16 @@
-// Fields of a text, parted by a mark, and the numbers of a field.
+// Standard input, fields of a text, parted by a mark, and the numbers of a field.
 ghost use Rattle.std.specs.Prelude.{◌≤◌, length};
 ghost use Rattle.io.specs.Counts.{IsPrefixLen};
+
+use std::io;
+use std::io::Read;
+
+// The first so many bytes of standard input, or all of it.
+pub fn input(rt: &(impl Input + AllocGlobal), most: u64) -> io::Result<Vec<u8>> {
+    let mut text = Vec::new(rt.alloc());
+    rt.reader().take(most).read_to_end(&mut text)?;
+    Ok(text)
+}
 
 // The place behind the k-th mark, or the text's end.
 fn start(text: &[u8], mark: u8, k: usize) -> usize
