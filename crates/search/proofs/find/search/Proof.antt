@@ -12,43 +12,34 @@ use Rattle.search.proofs.find.search.Tie as tie
 
 -- the candidates are the followers and those struck out
 counts :
-    (c : tie.After-settle) →
-    let args = c.before.before.before.before.before.before.before.before.before.before.before.before.before.before.before.before.before.before.args in
-    followers (graph_of args.starts.now args.links.now) (anchored_by args.anchored.now) args.x + c.settle.result ≡ c.before.before.before.before.before.before.before.before.before.reach.result
+    (c : tie.After-settle-gone) →
+    let args = c.args in
+    followers (graph_of args.starts.now args.links.now) (anchored_by args.anchored.now) args.x + c.settle-gone.result ≡ c.reach-reached.result
 counts c =
-    let weighed = c.before.before.before.before in
-    let reached = weighed.before.before.before.before.before in
-    let start = reached.before.before.before.before.before.before.before.before.before in
-    found-counts start.requires.0.leveled reached.reach.ensures weighed.weigh.ensures.1.0 weighed.weigh.ensures.1.1 c.settle.ensures
+    found-counts c.requires.0.leveled c.reach-reached.ensures c.weigh-weak.ensures.1.0 c.weigh-weak.ensures.1.1 c.settle-gone.ensures
 
-reach-requires : tie.Need-reach-requires
+reach-requires : tie.Need-reach-reached-requires
 reach-requires c κs =
-    let start = c.before.before.before.before.before.before.before.before in
-    (start.requires.0, (start.requires.1.0, queue_start (vertices start.args.starts.now) 1024 start.requires.0.leveled.admitted.table.small))
+    (c.requires.0, (c.requires.1.0, queue_start (vertices c.args.starts.now) 1024 c.requires.0.leveled.admitted.table.small))
 
-weigh-requires : tie.Need-weigh-requires
+weigh-requires : tie.Need-weigh-weak-requires
 weigh-requires c κs =
-    let start = c.before.before.before.before.before.before.before.before.before.before.before.before.before in
-    let leveled = start.requires.0.leveled in
+    let leveled = c.requires.0.leveled in
     let small = leveled.admitted.table.small in
-    (leveled, (c.before.before.before.before.reach.ensures.queued, (small, small)))
+    (leveled, (c.reach-reached.ensures.queued, (small, small)))
 
-settle-requires : tie.Need-settle-requires
+settle-requires : tie.Need-settle-gone-requires
 settle-requires c κs =
-    let start = c.before.before.before.before.before.before.before.before.before.before.before.before.before.before.before.before.before in
-    let leveled = start.requires.0.leveled in
-    (leveled.admitted.table, (leveled.long, c.before.before.before.weigh.ensures.0))
+    let leveled = c.requires.0.leveled in
+    (leveled.admitted.table, (leveled.long, c.weigh-weak.ensures.0))
 
-sub-lifted : tie.Need-overflow-sub-lifted
+sub-lifted : tie.Need-overflow_sub-lifted
 sub-lifted c = omega (arith, counts c)
 
 returns : tie.Need-returns
 returns c =
-    let weighed = c.before.before.before.before in
-    let reached = weighed.before.before.before.before.before in
-    let start = reached.before.before.before.before.before.before.before.before.before in
-    let marks = found-marks start.requires.0.leveled reached.reach.ensures weighed.weigh.ensures.1.0 weighed.weigh.ensures.1.1 c.settle.ensures in
-    (marks, (omega (arith, counts c), reached_is reached.reach.ensures))
+    let marks = found-marks c.requires.0.leveled c.reach-reached.ensures c.weigh-weak.ensures.1.0 c.weigh-weak.ensures.1.1 c.settle-gone.ensures in
+    (marks, (omega (arith, counts c), reached_is c.reach-reached.ensures))
 
-pub search-spec : {M : Type 1} → statement M
-search-spec = tie.close (tie.spec reach-requires weigh-requires settle-requires sub-lifted returns)
+pub search_spec : {M : Type 1} → statement M
+search_spec = tie.close (tie.spec reach-requires weigh-requires settle-requires sub-lifted returns)

@@ -11,20 +11,20 @@ use borrow.Author.Rules.{rules}
 use Rattle.search.proofs.operation.test_search.Statement.{statement}
 use Rattle.search.proofs.operation.test_search.Tie as tie
 
-told : (c : tie.After-enum-told) → let args = c.before.before.before.before.before.before.before.before.args in
+told : (c : tie.In-Passed) → let args = c.args in
     marking_of args.starts.now args.links.now args.anchored.now args.levels.now args.layers.now args.x args.room ≡ Passed
-told c = sym c.before.before.test-marking.ensures ∙ c.enum_told.given.1
+told c = sym c.test_marking-tested.ensures ∙ c.in-Passed.is
 
-test-marking-requires : tie.Need-test-marking-requires
+test-marking-requires : tie.Need-test_marking-tested-requires
 test-marking-requires c κs = search rules
 
-enum-known-tested : tie.Need-enum-known-tested
+enum-known-tested : tie.Need-enum_known-tested
 enum-known-tested c = search rules
 
-enum_told : tie.Need-enum-told
+enum_told : tie.Need-enum_told-1
 enum_told c = search rules
 
-shared-slice-read-if1 : tie.Need-shared-slice-read-if1
+shared-slice-read-if1 : tie.Need-bounds-anchored-x
 shared-slice-read-if1 c =
     let promised = marking-sound _ _ _ _ _ _ _ (told c.before) in
     omega (arith, promised.2, promised.0.long)
@@ -32,18 +32,18 @@ shared-slice-read-if1 c =
 refused-requires : tie.Need-refused-requires
 refused-requires c κs = search rules
 
-returns : tie.Need-returns
-returns c = c.refused.ensures ∙ sym (search-anchored _ _ _ _ _ _ _ (told c.before.before.before) c.before.if1.true)
+returns : tie.Need-returns-then-anchored-x-eq1
+returns c = c.refused.ensures ∙ sym (search-anchored _ _ _ _ _ _ _ (told c.before.before.before) c.if-anchored-x-eq1.true)
 
-returns-2 : tie.Need-returns-2
+returns-2 : tie.Need-returns-in-Refused
 unfolding search_of
-returns-2 c = sym (handed _ _ (sym c.before.before.before.test-marking.ensures ∙ c.before.tested.given.1))
+returns-2 c = sym (handed _ _ (sym c.test_marking-tested.ensures ∙ c.in-Refused.is))
 
-returns-3 : tie.Need-returns-3
-returns-3 c = sym (search-free _ _ _ _ _ _ _ (told c.before.before) c.if1.false)
+returns-3 : tie.Need-returns-else-anchored-x-eq1
+returns-3 c = sym (search-free _ _ _ _ _ _ _ (told c.before.before) c.if-anchored-x-eq1.false)
 
-pub test-search-spec : {M : Type 1} → statement M
-test-search-spec =
+pub test_search_spec : {M : Type 1} → statement M
+test_search_spec =
     tie.close
     (tie.spec
     test-marking-requires
