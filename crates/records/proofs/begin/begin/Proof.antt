@@ -56,10 +56,10 @@ returns c =
           columns = worked.refresh-columns.ensures;
           bares = bare.fill_bare.ensures;
           counts = counted.0.1;
-          counts-long = omega (arith, small, counted.0.0);
+          counts_long = omega (arith, small, counted.0.0);
           reaches = counted.1.1;
-          reaches-long = omega (arith, small, counted.1.0);
-          stamps-long = omega arith;
+          reaches_long = omega (arith, small, counted.1.0);
+          stamps_long = omega arith;
         };
         stands = stands-start args.starts.now args.links.now args.given.now [] _ worked.pad.ensures.same (λ v h. get_or-replicate {A = ℕ} 1024 v 0 0 (omega arith));
       },
