@@ -9,7 +9,7 @@ pub mod yields; // the net yields of a record
 
 // Scratch arrays, of which the first n places count. A net yield is made of its row's level, bare level and followers where it is asked for.
 // A record that is not `reaching` keeps no reached counts, so that no search has to find them.
-#[derive(Drop)]
+#[derive(Clone, Copy)]
 pub struct Record {
     pub anchored: [u8; 1024],
     pub columns: Columns,

@@ -7,7 +7,7 @@ ghost use Rattle.pool.specs.Input.{anchored_by};
 ghost use Rattle.turns.specs.Turns.{houses_by, quota_by, turns_by};
 
 // Whose turn is next, and what is left of the quota of each of up to 16 houses.
-#[derive(Drop)]
+#[derive(Clone, Copy)]
 pub struct Turns {
     pub next: usize,
     pub left: [u16; 16],

@@ -17,22 +17,22 @@ editable : (c : tie.Start) → Editable (graph_of c.args.starts.now c.args.links
 editable c = edge_editable _ _ c.requires.1.1
 
 edit-requires : tie.Need-edit-requires
-edit-requires c κs = let start = c.before.before.before.before in (start.requires.0, editable start)
+edit-requires c κs = (c.requires.0, editable c.before.before.before.before)
 
 renew-requires : tie.Need-renew-requires
-renew-requires c κs = let start = start (edited c) in renewable start.pre.1.0 (editable start) (edited c).edit.ensures
+renew-requires c κs = let start = start (edited c.before.before.before.before) in renewable start.requires.1.0 (editable start) (edited c.before.before.before.before).edit.ensures
 
-same_length : tie.Need-same-length
-same_length c = (edited c.before).edit.auto.0
+same_length : tie.Need-shape_of-starts
+same_length c = (edited c.before.before.before.before.before).edit.auto.starts
 
-same-length-2 : tie.Need-same-length-2
-same-length-2 c = (edited c.before).edit.auto.1.0
+same-length-2 : tie.Need-shape_of-links
+same-length-2 c = (edited c.before.before.before.before.before).edit.auto.links
 
 returns : tie.Need-returns
 returns c =
-    let edited = edited c.before in
+    let edited = edited c.before.before.before.before.before in
     let start = start edited in
-    changed_turned start.args.adding start.args.a start.args.b start.pre.1.0 start.pre.1.1 edited.edit.ensures c.renew.ensures
+    changed_turned start.args.adding start.args.a start.args.b start.requires.1.0 start.requires.1.1 edited.edit.ensures c.renew.ensures
 
-pub change-spec : {M : Type 1} → statement M
-change-spec = tie.close (tie.spec edit-requires renew-requires same_length same-length-2 returns)
+pub change_spec : {M : Type 1} → statement M
+change_spec = tie.close (tie.spec edit-requires renew-requires same_length same-length-2 returns)

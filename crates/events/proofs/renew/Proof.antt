@@ -8,45 +8,44 @@ use Rattle.events.proofs.renew.Statement.{statement}
 use Rattle.events.proofs.renew.Tie as tie
 
 -- the stale rows marked, the bare levels, the columns and the entry, seen from the end
-abbrev marked : tie.After-redo → tie.After-mark-rows
+abbrev marked : tie.After-redo-redone → tie.After-mark_rows
 marked c = c.before.before.before.before.before.before.before.before.before
 
-abbrev bared : tie.After-mark-rows → tie.After-fill-bare
+abbrev bared : tie.After-mark_rows → tie.After-fill_bare
 bared c = c.before.before.before
 
-abbrev refreshed : tie.After-fill-bare → tie.After-refresh
+abbrev refreshed : tie.After-fill_bare → tie.After-refresh-columns
 refreshed c = c.before.before
 
-abbrev start : tie.After-refresh → tie.Start
+abbrev start : tie.After-refresh-columns → tie.Start
 start c = c.before.before.before.before.before
 
-refresh-requires : tie.Need-refresh-requires
-refresh-requires c κs = c.before.before.before.before.requires.0
+refresh-requires : tie.Need-refresh-columns-requires
+refresh-requires c κs = c.requires.0
 
-fill-bare-requires : tie.Need-fill-bare-requires
+fill-bare-requires : tie.Need-fill_bare-requires
 fill-bare-requires c κs = (start c.before).requires.0.table
 
-mark-rows-requires : tie.Need-mark-rows-requires
+mark-rows-requires : tie.Need-mark_rows-requires
 mark-rows-requires c κs = let pre = (start (refreshed c.before.before)).requires in (pre.0.table, pre.1.0)
 
-redo-requires : tie.Need-redo-requires
+redo-requires : tie.Need-redo-redone-requires
 redo-requires c κs =
     let fresh = refreshed (bared c.before.before.before.before.before.before.before.before) in
-    let pre = (start fresh).pre in
-    (pre.0, (fresh.refresh.ensures, pre.1.1))
+    let pre = (start fresh).requires in
+    (pre.0, (fresh.refresh-columns.ensures, pre.1.1))
 
-cast-accepted : tie.Need-overflow-cast-accepted
-cast-accepted c = omega (arith, (start (refreshed (bared (marked c)))).requires.0.table.small, redone-le c.redo.ensures)
+cast-accepted : tie.Need-overflow_cast-redone
+cast-accepted c = omega (arith, (start (refreshed (bared (marked c)))).requires.0.table.small, redone-le c.redo-redone.ensures)
 
 accepted-requires : tie.Need-accepted-requires
 accepted-requires c κs = search rules
 
 returns : tie.Need-returns
 returns c =
-    let redone = c.before in
-    let rows = marked redone in
-    let bare = (bared rows).fill-bare.ensures in
-    let columns = (refreshed (bared rows)).refresh.ensures in
+    let rows = marked c.before in
+    let bare = (bared rows).fill_bare.ensures in
+    let columns = (refreshed (bared rows)).refresh-columns.ensures in
     subst (Renews _ _ _ _ _ _) (sym c.accepted.ensures) record {
       bytes = refl;
       reaching = refl;
@@ -54,8 +53,8 @@ returns c =
       bares = bare;
       status = refl;
       lifted = refl;
-      rows = λ G before. redone-named redone.redo.ensures (λ v h. sym (rows.mark-rows.ensures columns bare G before v h));
+      rows = λ G before. redone-named c.redo-redone.ensures (λ v h. sym (rows.mark_rows.ensures columns bare G before v h));
     }
 
-pub renew-spec : {M : Type 1} → statement M
-renew-spec = tie.close (tie.spec refresh-requires fill-bare-requires mark-rows-requires redo-requires cast-accepted accepted-requires returns)
+pub renew_spec : {M : Type 1} → statement M
+renew_spec = tie.close (tie.spec refresh-requires fill-bare-requires mark-rows-requires redo-requires cast-accepted accepted-requires returns)

@@ -8,11 +8,11 @@ use Rattle.rounds.proofs.play.name.Tie as tie
 choose-requires : tie.Need-choose-requires
 choose-requires c κs = search rules
 
-returns : tie.Need-returns
-returns c = c.choose.ensures ∙ sym (rw (lt-ltb _ _ c.before.if1.true))
+returns : tie.Need-returns-then-c-houses
+returns c = c.choose.ensures ∙ sym (rw (lt-ltb _ _ c.if-c-houses.true))
 
-returns-2 : tie.Need-returns-2
-returns-2 c = rw (le-ltb _ _ c.if1.false)
+returns-2 : tie.Need-returns
+returns-2 c = rw (le-ltb _ _ c.if-c-houses.false)
 
-pub name-spec : {M : Type 1} → statement M
-name-spec = tie.close (tie.spec choose-requires returns returns-2)
+pub name_spec : {M : Type 1} → statement M
+name_spec = tie.close (tie.spec choose-requires returns returns-2)

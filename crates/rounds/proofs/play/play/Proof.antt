@@ -10,80 +10,78 @@ use Rattle.rounds.proofs.play.play.Statement.{statement}
 use Rattle.rounds.proofs.play.play.Tie as tie
 
 -- the entry, seen from where a vertex is named, and where nobody is
-abbrev entry : tie.Else1 → tie.Start
+abbrev entry : tie.Else-x-n → tie.Start
 entry c = c.before.before.before.before
 
-abbrev entry-none : tie.Then1 → tie.Start
+abbrev entry-none : tie.Then-x-n → tie.Start
 entry-none c = c.before.before.before.before
 
-abbrev some : tie.After-search → tie.Else1
+abbrev some : tie.After-search → tie.Else-x-n
 some c = c.before.before.before.before.before.before.before.before.before
 
-abbrev searched : tie.After-next → tie.After-search
+abbrev searched : tie.After-next-1 → tie.After-search
 searched c = c.before.before.before.before.before.before.before.before
 
-low : (c : tie.Else1) → (entry c).args.x < vertices (entry c).args.starts.now
-low c = omega (arith, (entry c).requires.1.0, c.if1.false)
+low : (c : tie.Else-x-n) → (entry c).args.x < vertices (entry c).args.starts.now
+low c = omega (arith, (entry c).requires.1.0, c.if-x-n.false)
 
-sub-n : tie.Need-overflow-sub-n
+sub-n : tie.Need-overflow_sub-n
 sub-n c = search rules
 
-put-line-requires : tie.Need-put-line-requires
+put-line-requires : tie.Need-put_line-end-requires
 put-line-requires c κs = search rules
 
-same_length : tie.Need-same-length
+same_length : tie.Need-shape_of-out-then-x-n
 same_length c = search rules
 
-returns : tie.Need-returns
+returns : tie.Need-returns-then-x-n
 returns c =
-    let none = c.before.before.before.before.before in
-    let right = (entry-none none).requires.0 in
-    (keeps_none right _ _ none.if1.true, written_none right _ _ 1024 none.if1.true c.before.before.put-line.ensures)
+    let right = (entry-none c.before.before.before.before.before).requires.0 in
+    (keeps_none right _ _ c.if-x-n.true, written_none right _ _ 1024 c.if-x-n.true c.put_line-end.ensures)
 
-slice-aggregate-search : tie.Need-slice-aggregate-search
+slice-aggregate-search : tie.Need-slice_bounds-search-end
 slice-aggregate-search c = search rules
 
-slice-aggregate-search-2 : tie.Need-slice-aggregate-search-2
+slice-aggregate-search-2 : tie.Need-slice_bounds-search-end-2
 slice-aggregate-search-2 c = search rules
 
-slice-aggregate-search-3 : tie.Need-slice-aggregate-search-3
+slice-aggregate-search-3 : tie.Need-slice_bounds-search-end-3
 slice-aggregate-search-3 c = search rules
 
 search-requires : tie.Need-search-requires
 search-requires c κs =
-    let some = c.before.before.before.before.before.before.before.before in
-    let pre = (entry some).requires in
+    let pre = (entry c.before.before.before.before.before.before.before.before).requires in
     let right = pre.0 in (
       in_arrays right.admitted (sym (slice-aggregate-search-2 c.before.before)) (sym (slice-aggregate-search-3 c.before)) right.columns.levels right.columns.layers,
-      (low some, pre.1.1.0 (low some)),
+      (low c.before.before.before.before.before.before.before.before, pre.1.1.0 (low c.before.before.before.before.before.before.before.before)),
     )
 
-step-requires : tie.Need-step-requires
+step-requires : tie.Need-step-stepped-requires
 step-requires c κs = search rules
 
-cast-t34 : tie.Need-overflow-cast-t34
+cast-t34 : tie.Need-overflow_cast-chosen
 cast-t34 c =
     let some = some c.before.before in
-    omega (arith, low some, (entry some).pre.0.admitted.table.small)
+    omega (arith, low some, (entry some).requires.0.admitted.table.small)
 
-put-line-requires-2 : tie.Need-put-line-requires-2
+put-line-requires-2 : tie.Need-put_line-end-requires-2
 put-line-requires-2 c κs =
     let pre = (entry (some c.before.before.before.before)).requires in
     (pre.0.admitted.table.small, pre.1.1.1)
 
-same-length-2 : tie.Need-same-length-2
+same-length-2 : tie.Need-shape_of-out
 same-length-2 c = search rules
 
-returns-2 : tie.Need-returns-2
+returns-2 : tie.Need-returns
 returns-2 c =
     let search = (searched c).search in
     let some = some (searched c) in
-    let right = (entry some).pre.0 in
-    let stepped = c.before.before.before.before.before.before.before.step.ensures in
-    (keeps_some right _ _ stepped, written-some right _ _ search.last.1.1.1.1.1.1.0 (low some) search.ensures.0 stepped c.before.before.before.put-line2.ensures)
+    let right = (entry some).requires.0 in
+    let stepped = c.step-stepped.ensures in
+    (keeps_some right _ _ stepped, written-some right _ _ search.last.1.1.1.1.1.1.0 (low some) search.ensures.0 stepped c.put_line-end-2.ensures)
 
-pub play-spec : {M : Type 1} → statement M
-play-spec =
+pub play_spec : {M : Type 1} → statement M
+play_spec =
     tie.close
     (tie.spec
     sub-n

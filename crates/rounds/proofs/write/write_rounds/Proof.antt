@@ -18,28 +18,28 @@ use Rattle.rounds.proofs.write.write_rounds.Tie as tie
 abbrev house : List ℕ
 house = replicate 1024 0
 
-slice-aggregate-write-shared : tie.Need-slice-aggregate-write-shared
+slice-aggregate-write-shared : tie.Need-slice_bounds-write_shared-end
 slice-aggregate-write-shared c = search rules
 
-slice-aggregate-write-shared-2 : tie.Need-slice-aggregate-write-shared-2
+slice-aggregate-write-shared-2 : tie.Need-slice_bounds-write_shared-end-2
 slice-aggregate-write-shared-2 c = search rules
 
-write-shared-requires : tie.Need-write-shared-requires
+write-shared-requires : tie.Need-write_shared-requires
 write-shared-requires c κs =
-    let pre = c.before.before.before.before.before.before.before.requires in
+    let pre = c.requires in
     (pre.0, (pre.1.0, (pre.0.table.small, (omega arith, (omega arith, pre.1.1)))))
 
-same_length : tie.Need-same-length
+same_length : tie.Need-shape_of-out
 same_length c = search rules
 
 returns : tie.Need-returns
 returns c =
-    let args = c.before.before.before.before.before.before.before.before.before.before.args in
+    let args = c.args in
     let alone = one-rounds (graph_of args.starts.now args.links.now) (houses_by house 1) (quota_by (args.rounds ∷ [])) (anchored_by args.given.now) refl (λ v h. zeros-at 1024 v) in
-    written_as (ap (sheet_of (vertices args.starts.now)) (alone args.rounds (omega arith))) c.before.before.write-shared.ensures
+    written_as (ap (sheet_of (vertices args.starts.now)) (alone args.rounds (omega arith))) c.write_shared.ensures
 
-pub write-rounds-spec : {M : Type 1} → statement M
-write-rounds-spec =
+pub write_rounds_spec : {M : Type 1} → statement M
+write_rounds_spec =
     tie.close
     (tie.spec
     slice-aggregate-write-shared

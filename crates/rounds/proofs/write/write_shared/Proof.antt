@@ -14,70 +14,68 @@ use Rattle.rounds.proofs.Playing.{Playing, playing_none, playing_more, playing_n
 use Rattle.rounds.proofs.write.write_shared.Statement.{statement}
 use Rattle.rounds.proofs.write.write_shared.Tie as tie
 
-abbrev invariant-loop : tie.invariant-loop
-invariant-loop starts links given house quotas lines out₀ houses kept₀ turns₀ at₀ i₀ out kept turns at i = (i ≤ lines) × Playing starts links given house quotas out₀ out kept turns at i
+abbrev invariant-loop-i : tie.invariant-loop-i
+invariant-loop-i starts links given house quotas lines out₀ houses kept₀ turns₀ at₀ i₀ out kept turns at i = (i ≤ lines) × Playing starts links given house quotas out₀ out kept turns at i
 
-abbrev decreases-loop : tie.decreases-loop
-decreases-loop starts links given house quotas lines out₀ houses kept₀ turns₀ at₀ i₀ out kept turns at i = lines - i
+abbrev decreases-loop-i : tie.decreases-loop-i
+decreases-loop-i starts links given house quotas lines out₀ houses kept₀ turns₀ at₀ i₀ out kept turns at i = lines - i
 
 -- the entry, seen from the loop's head
-abbrev entry : tie.At-loop invariant-loop decreases-loop → tie.Start invariant-loop decreases-loop
+abbrev entry : tie.At-loop-i invariant-loop-i decreases-loop-i → tie.Start invariant-loop-i decreases-loop-i
 entry c = c.before.before.before.before.before.before.before.before.before
 
 -- the loop's head, seen from a turn's end
-abbrev head : tie.After-turns invariant-loop decreases-loop → tie.At-loop invariant-loop decreases-loop
+abbrev head : tie.After-turns-1 invariant-loop-i decreases-loop-i → tie.At-loop-i invariant-loop-i decreases-loop-i
 head c = c.before.before.before.before.before.before.before
 
-begin-requires : tie.Need-begin-requires invariant-loop decreases-loop
+begin-requires : tie.Need-begin-kept-requires invariant-loop-i decreases-loop-i
 begin-requires c κs =
-    let pre = c.before.before.before.before.before.before.requires in
+    let pre = c.requires in
     (pre.0, pre.1.0)
 
-begin-turns-requires : tie.Need-begin-turns-requires invariant-loop decreases-loop
-begin-turns-requires c κs = c.before.before.before.before.before.before.before.requires.1.1.1.1.0
+begin-turns-requires : tie.Need-begin_turns-turns-requires invariant-loop-i decreases-loop-i
+begin-turns-requires c κs = c.requires.1.1.1.1.0
 
-loop-holds : tie.Need-loop-init invariant-loop decreases-loop
-loop-holds c = (omega arith, playing_none c.before.begin.ensures.0 c.begin-turns.ensures)
+loop-holds : tie.Need-loop-i-init invariant-loop-i decreases-loop-i
+loop-holds c = (omega arith, playing_none c.begin-kept.ensures.0 c.begin_turns-turns.ensures)
 
-add-play-turn : tie.Need-overflow-add-play-turn invariant-loop decreases-loop
+add-play-turn : tie.Need-overflow_add-i invariant-loop-i decreases-loop-i
 add-play-turn c = search rules
 
-play-turn-requires : tie.Need-play-turn-requires invariant-loop decreases-loop
+play-turn-requires : tie.Need-play_turn-served-requires invariant-loop-i decreases-loop-i
 play-turn-requires c κs =
-    let head = c.before.before in
-    let now = head.loop.invariant.1 in
-    let pre = (entry head).requires in
-    (now.keeps.right, (pre.1.1.0, (pre.1.1.1.1.0, (playing_next now pre.1.1.1.0, playing_room now _ c.before.loop-test.true pre.1.1.1.1.1))))
+    let now = c.loop-i.invariant.1 in
+    let pre = (entry c.before.before).requires in
+    (now.keeps.right, (pre.1.1.0, (pre.1.1.1.1.0, (playing_next now pre.1.1.1.0, playing_room now _ c.loop-i-test.true pre.1.1.1.1.1))))
 
-add-i : tie.Need-overflow-add-i invariant-loop decreases-loop
-add-i c = omega (arith, c.before.before.before.before.before.before.loop-test.true, (entry (head c)).fits)
+add-i : tie.Need-overflow_add-i-in-loop-i invariant-loop-i decreases-loop-i
+add-i c = omega (arith, c.loop-i-test.true, (entry (head c)).ranges)
 
-loop-less : tie.Need-loop-smaller invariant-loop decreases-loop
+loop-less : tie.Need-loop-i-smaller invariant-loop-i decreases-loop-i
 loop-less c = search rules
 
-loop-again : tie.Need-loop-preserved invariant-loop decreases-loop
+loop-again : tie.Need-loop-i-preserved invariant-loop-i decreases-loop-i
 loop-again c =
-    let played = c.before.before.before.before.play-turn.ensures in
-    (omega (arith, c.before.before.before.before.before.before.loop-test.true), playing_more (head c).loop.invariant.1 played.0 played.1.0 played.1.1)
+    let played = c.play_turn-served.ensures in
+    (omega (arith, c.loop-i-test.true), playing_more (head c).loop-i.invariant.1 played.0 played.1.0 played.1.1)
 
-same_length : tie.Need-same-length invariant-loop decreases-loop
-same_length c = playing_length c.before.loop.invariant.1
+same_length : tie.Need-shape_of-out invariant-loop-i decreases-loop-i
+same_length c = playing_length c.loop-i.invariant.1
 
-returns : tie.Need-returns invariant-loop decreases-loop
+returns : tie.Need-returns invariant-loop-i decreases-loop-i
 returns c =
-    let head = c.before in
-    let args = (entry head).args in
+    let args = (entry c.before).args in
     let G = graph_of args.starts.now args.links.now in
     let rounds = shared_rounds G (houses_by args.house.now (length args.quotas.now)) (quota_by args.quotas.now) (anchored_by args.given.now) in
-    let end : head.loop.i ≡ args.lines = omega (arith, head.loop.invariant.0, c.loop-test.false) in
-    written_as (ap (λ k. sheet_of (vertices args.starts.now) (rounds k)) end) head.loop.invariant.1.sheet
+    let end : c.loop-i.i ≡ args.lines = omega (arith, c.loop-i.invariant.0, c.loop-i-test.false) in
+    written_as (ap (λ k. sheet_of (vertices args.starts.now) (rounds k)) end) c.loop-i.invariant.1.sheet
 
-pub write-shared-spec : {M : Type 1} → statement M
-write-shared-spec =
+pub write_shared_spec : {M : Type 1} → statement M
+write_shared_spec =
     tie.close
     (tie.spec
-    invariant-loop
-    decreases-loop
+    invariant-loop-i
+    decreases-loop-i
     begin-requires
     begin-turns-requires
     loop-holds
