@@ -78,7 +78,7 @@ returns-2 c =
     let some = some (searched c) in
     let right = (entry some).requires.0 in
     let stepped = c.step-stepped.ensures in
-    (keeps_some right _ _ stepped, written-some right _ _ search.last.1.1.1.1.1.1.0 (low some) search.ensures.0 stepped c.put_line-end-2.ensures)
+    (keeps_some right _ _ stepped, written-some right _ _ search.new.marks (low some) search.ensures.0 stepped c.put_line-end-2.ensures)
 
 pub play_spec : {M : Type 1} → statement M
 play_spec =
