@@ -12,60 +12,57 @@ use Rattle.houses.proofs.share_rounds.Statement.{statement}
 use Rattle.houses.proofs.share_rounds.Tie as tie
 
 -- the entry, seen from where nothing is refused
-abbrev entry : tie.After-enum-told → tie.Start
-entry c = c.before.before.before.before.before.before.before.before.before
+abbrev entry : tie.In-Passed → tie.Start
+entry c = c.before.before.before.before.before.before.before.before
 
-told : (c : tie.After-enum-told) → let args = (entry c).args in
+told : (c : tie.In-Passed) → let args = (entry c).args in
     houses_of args.starts.now args.links.now args.anchored.now args.house.now args.quotas.now (length args.sheet.now) ≡ Passed
-told c = sym c.before.before.test-houses.ensures ∙ c.enum_told.given.1
+told c = sym c.test_houses-tested.ensures ∙ c.in-Passed.is
 
-given : (c : tie.After-enum-told) → let args = (entry c).args in
+given : (c : tie.In-Passed) → let args = (entry c).args in
     Housed args.starts.now args.links.now args.anchored.now args.house.now args.quotas.now (length args.sheet.now)
 given c = call_told _ _ _ _ _ _ (told c)
 
 -- the sum is not held: it is that of the quotas
-lines : (c : tie.After-total) → c.total.result ≡ quota_sum (entry c.before.before).args.quotas.now
-lines c = omega (arith, c.total.ensures, (given c.before.before).sum_small)
+lines : (c : tie.After-total-lines) → c.total-lines.result ≡ quota_sum (entry c.before.before).args.quotas.now
+lines c = omega (arith, c.total-lines.ensures, (given c.before.before).sum_small)
 
-test-houses-requires : tie.Need-test-houses-requires
+test-houses-requires : tie.Need-test_houses-tested-requires
 test-houses-requires c κs = search rules
 
-enum-known-tested : tie.Need-enum-known-tested
+enum-known-tested : tie.Need-enum_known-tested
 enum-known-tested c = search rules
 
-enum_told : tie.Need-enum-told
+enum_told : tie.Need-enum_told-1
 enum_told c = search rules
 
-measure-requires : tie.Need-measure-requires
+measure-requires : tie.Need-measure-size-requires
 measure-requires c κs = (given c).admitted.table
 
-total-requires : tie.Need-total-requires
+total-requires : tie.Need-total-lines-requires
 total-requires c κs = search rules
 
-write-shared-requires : tie.Need-write-shared-requires
+write-shared-requires : tie.Need-write_shared-end-requires
 write-shared-requires c κs =
-    let summed = c.before in
-    let grant = given summed.before.before in
-    (grant.admitted, (grant.bytes_long, (omega (arith, grant.houses_long), (grant.some, (grant.few, rw (lines summed) grant.enough)))))
+    let grant = given c.before.before.before in
+    (grant.admitted, (grant.bytes_long, (omega (arith, grant.houses_long), (grant.some, (grant.few, rw (lines c.before) grant.enough)))))
 
-returns : tie.Need-returns
+returns : tie.Need-returns-in-Refused
 returns c =
-    let refused = sym c.before.before.before.test-houses.ensures ∙ c.before.tested.given.1 in
+    let refused = sym c.test_houses-tested.ensures ∙ c.in-Refused.is in
     (sym (handed _ _ refused), sym (handed _ _ refused))
 
-same_length : tie.Need-same-length
+same_length : tie.Need-shape_of-sheet
 same_length c = search rules
 
-returns-2 : tie.Need-returns-2
+returns-2 : tie.Need-returns-in-Passed
 returns-2 c =
-    let summed = c.before.before.before.before in
-    let passed = summed.before.before in
-    let args = (entry passed).args in
-    let written = shared_written args.starts.now args.links.now args.anchored.now args.house.now args.quotas.now (lines summed) (given passed).enough c.before.before.write-shared.ensures in
-    (ap₂ Sheet written.0 summed.before.measure.ensures ∙ sym (cleared _ _ (told passed)), written.1 ∙ sym (cleared _ _ (told passed)))
+    let args = (entry c.before.before.before.before.before.before).args in
+    let written = shared_written args.starts.now args.links.now args.anchored.now args.house.now args.quotas.now (lines c.before.before.before.before) (given c.before.before.before.before.before.before).enough c.write_shared-end.ensures in
+    (ap₂ Sheet written.0 c.measure-size.ensures ∙ sym (cleared _ _ (told c.before.before.before.before.before.before)), written.1 ∙ sym (cleared _ _ (told c.before.before.before.before.before.before)))
 
-pub share-rounds-spec : {M : Type 1} → statement M
-share-rounds-spec =
+pub share_rounds_spec : {M : Type 1} → statement M
+share_rounds_spec =
     tie.close
     (tie.spec
     test-houses-requires

@@ -1,6 +1,6 @@
 -- `test_members` meets its contract: what is left of the definition after each test. Assumes nothing.
-use mathlib.Core.Path.{◌≡◌, sym, ◌∙◌}
-use mathlib.Core.Bool.{true}
+use mathlib.Core.Path.{ap, ◌≡◌, sym, ◌∙◌}
+use mathlib.Core.Bool.{not, true}
 use mathlib.Core.List.{[], ◌∷◌}
 use lib.ListN.{length, get_or}
 use lib.Dec.{ltb, eqb}
@@ -14,51 +14,50 @@ use Rattle.houses.proofs.test_members.Statement.{statement}
 use Rattle.houses.proofs.test_members.Tie as tie
 
 -- the entry, seen from behind 9
-abbrev entry : tie.Else1 → tie.Start
+abbrev entry : tie.Else-not-all_are → tie.Start
 entry c = c.before.before.before.before.before.before
 
-alike : (c : tie.Else1) → let args = (entry c).args in all (eqb args.n) (length args.anchored.now ∷ length args.house.now ∷ []) ≡ true
-alike c = let tested = c.before.all_are in sym tested.ensures ∙ not-false tested.result c.if1.false
+alike : (c : tie.Else-not-all_are) → let args = (entry c).args in all (eqb args.n) (length args.anchored.now ∷ length args.house.now ∷ []) ≡ true
+alike c = let tested = c.all_are in sym tested.ensures ∙ not-false tested.result (ap not c.if-not-all_are.false)
 
-past-nine : (c : tie.Else1) → let args = (entry c).args in members_of args.n args.anchored.now args.house.now args.quotas.now args.room
+past-nine : (c : tie.Else-not-all_are) → let args = (entry c).args in members_of args.n args.anchored.now args.house.now args.quotas.now args.room
     ≡ refuse 10 (λ v. ltb 1 (get_or args.anchored.now v 0)) (length args.anchored.now) (quotas_of args.n args.house.now args.quotas.now args.room)
 unfolding members_of
 past-nine c = rw (alike c)
 
-slice-aggregate-all-are : tie.Need-slice-aggregate-all-are
+slice-aggregate-all-are : tie.Need-slice_bounds-all_are-end
 slice-aggregate-all-are c = search rules
 
-all-are-requires : tie.Need-all-are-requires
+all-are-requires : tie.Need-all_are-requires
 all-are-requires c κs = search rules
 
 refused-requires : tie.Need-refused-requires
 refused-requires c κs = search rules
 
-returns : tie.Need-returns
+returns : tie.Need-returns-then-not-all_are
 unfolding members_of
 returns c =
-    let tested = c.before.before.all_are in
-    c.refused.ensures ∙ sym (rw (sym tested.ensures ∙ not-true tested.result c.before.if1.true))
+    let tested = c.all_are in
+    c.refused.ensures ∙ sym (rw (sym tested.ensures ∙ not-true tested.result (ap not c.if-not-all_are.true)))
 
-first-bad-byte-requires : tie.Need-first-bad-byte-requires
+first-bad-byte-requires : tie.Need-first_bad_byte-place-requires
 first-bad-byte-requires c κs = search rules
 
-refused-requires-2 : tie.Need-refused-requires-2
+refused-requires-2 : tie.Need-refused-requires-then-place-anchored
 refused-requires-2 c κs = search rules
 
-returns-2 : tie.Need-returns-2
-returns-2 c = c.refused2.ensures ∙ sym (past-nine c.before.before.before ∙ hit 10 _ _ _ c.before.before.first-bad-byte.ensures c.before.if2.true)
+returns-2 : tie.Need-returns-then-place-anchored
+returns-2 c = c.refused-then-place-anchored.ensures ∙ sym (past-nine c.before.before.before ∙ hit 10 _ _ _ c.first_bad_byte-place.ensures c.if-place-anchored.true)
 
-test-quotas-requires : tie.Need-test-quotas-requires
+test-quotas-requires : tie.Need-test_quotas-requires
 test-quotas-requires c κs = search rules
 
-returns-3 : tie.Need-returns-3
+returns-3 : tie.Need-returns
 returns-3 c =
-    let past = c.before in
-    c.test-quotas.ensures ∙ sym (past-nine past.before.before ∙ pass 10 _ _ _ (nothing _ _ past.before.first-bad-byte.ensures past.if2.false))
+    c.test_quotas.ensures ∙ sym (past-nine c.before.before.before ∙ pass 10 _ _ _ (nothing _ _ c.first_bad_byte-place.ensures c.if-place-anchored.false))
 
-pub test-members-spec : {M : Type 1} → statement M
-test-members-spec =
+pub test_members_spec : {M : Type 1} → statement M
+test_members_spec =
     tie.close
     (tie.spec
     slice-aggregate-all-are

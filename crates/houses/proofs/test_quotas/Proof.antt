@@ -18,7 +18,7 @@ use Rattle.houses.proofs.test_quotas.Statement.{statement}
 use Rattle.houses.proofs.test_quotas.Tie as tie
 
 -- the entry, seen from the sum
-abbrev entry : tie.After-total → tie.Start
+abbrev entry : tie.After-total-lines → tie.Start
 entry c = c.before.before.before
 
 abbrev asked : tie.Start → Guard
@@ -32,92 +32,87 @@ abbrev members : tie.Start → Guard
 members start = let args = start.args in refuse 27 (outside (length args.quotas.now) args.house.now) (length args.house.now) (space start)
 
 -- the sum is not held: it is that of the quotas
-lines-few : (c : tie.Else1) → (quota_sum (entry c.before).args.quotas.now ≤ 60) × (c.before.total.result ≡ quota_sum (entry c.before).args.quotas.now)
-lines-few c = let told = c.before.total.ensures in let few = c.if1.false in (omega arith, omega arith)
+lines-few : (c : tie.Else-lines-gt60) → (quota_sum (entry c.before).args.quotas.now ≤ 60) × (c.total-lines.result ≡ quota_sum (entry c.before).args.quotas.now)
+lines-few c = let told = c.total-lines.ensures in let few = c.if-lines-gt60.false in (omega arith, omega arith)
 
-past-sum : (c : tie.Else1) → let start = entry c.before in let houses = length start.args.quotas.now in asked start ≡ cond (eqb houses 0 || ltb 16 houses) (refused 26 0) (members start)
+past-sum : (c : tie.Else-lines-gt60) → let start = entry c.before in let houses = length start.args.quotas.now in asked start ≡ cond (eqb houses 0 || ltb 16 houses) (refused 26 0) (members start)
 unfolding quotas_of
 past-sum c = rw (le-ltb 60 (quota_sum (entry c.before).args.quotas.now) (lines-few c).0)
 
-past-count : (c : tie.Else3) → let start = entry c.before.before.before in asked start ≡ members start
+past-count : (c : tie.Else-quotas-gt16) → let start = entry c.before.before.before in asked start ≡ members start
 past-count c =
     let houses = length (entry c.before.before.before).args.quotas.now in
-    past-sum c.before.before ∙ rw (ne_eqb houses 0 c.before.if2.false, le-ltb 16 houses c.if3.false)
+    past-sum c.before.before ∙ rw (ne_eqb houses 0 c.if-quotas-eq0.false, le-ltb 16 houses c.if-quotas-gt16.false)
 
-past-members : (c : tie.Else4) → let start = entry c.before.before.before.before.before in asked start ≡ space start
-past-members c = past-count c.before.before ∙ pass 27 _ _ _ (nothing _ _ c.before.first-outside.ensures c.if4.false)
+past-members : (c : tie.Else-stranger-house) → let start = entry c.before.before.before.before.before in asked start ≡ space start
+past-members c = past-count c.before.before ∙ pass 27 _ _ _ (nothing _ _ c.first_outside-stranger.ensures c.if-stranger-house.false)
 
-total-requires : tie.Need-total-requires
+total-requires : tie.Need-total-lines-requires
 total-requires c κs = search rules
 
 refused-requires : tie.Need-refused-requires
 refused-requires c κs = search rules
 
-returns : tie.Need-returns
+returns : tie.Need-returns-then-lines-gt60
 unfolding quotas_of
 returns c =
-    let told = c.before.before.total.ensures in
-    let many = c.before.if1.true in
+    let told = c.total-lines.ensures in
+    let many = c.if-lines-gt60.true in
     c.refused.ensures ∙ sym (rw (lt-ltb 60 (quota_sum (entry c.before.before).args.quotas.now) (omega arith)))
 
-refused-requires-2 : tie.Need-refused-requires-2
+refused-requires-2 : tie.Need-refused-requires-then-quotas-eq0
 refused-requires-2 c κs = search rules
 
-returns-2 : tie.Need-returns-2
+returns-2 : tie.Need-returns-then-quotas-eq0
 returns-2 c =
     let houses = length (entry c.before.before.before).args.quotas.now in
-    c.refused2.ensures ∙ sym (past-sum c.before.before ∙ rw (eq-eqb houses 0 c.before.if2.true))
+    c.refused-then-quotas-eq0.ensures ∙ sym (past-sum c.before.before ∙ rw (eq-eqb houses 0 c.if-quotas-eq0.true))
 
-refused-requires-3 : tie.Need-refused-requires-3
+refused-requires-3 : tie.Need-refused-requires-then-quotas-gt16
 refused-requires-3 c κs = search rules
 
-returns-3 : tie.Need-returns-3
+returns-3 : tie.Need-returns-then-quotas-gt16
 returns-3 c =
     let houses = length (entry c.before.before.before.before).args.quotas.now in
-    c.refused3.ensures ∙ sym (past-sum c.before.before.before ∙ rw (ne_eqb houses 0 c.before.before.if2.false, lt-ltb 16 houses c.before.if3.true))
+    c.refused-then-quotas-gt16.ensures ∙ sym (past-sum c.before.before.before ∙ rw (ne_eqb houses 0 c.if-quotas-eq0.false, lt-ltb 16 houses c.if-quotas-gt16.true))
 
-first-outside-requires : tie.Need-first-outside-requires
+first-outside-requires : tie.Need-first_outside-stranger-requires
 first-outside-requires c κs = search rules
 
-refused-requires-4 : tie.Need-refused-requires-4
+refused-requires-4 : tie.Need-refused-requires-then-stranger-house
 refused-requires-4 c κs = search rules
 
-returns-4 : tie.Need-returns-4
-returns-4 c = c.refused4.ensures ∙ sym (past-count c.before.before.before ∙ hit 27 _ _ _ c.before.before.first-outside.ensures c.before.if4.true)
+returns-4 : tie.Need-returns-then-stranger-house
+returns-4 c = c.refused-then-stranger-house.ensures ∙ sym (past-count c.before.before.before ∙ hit 27 _ _ _ c.first_outside-stranger.ensures c.if-stranger-house.true)
 
-cast-if5 : tie.Need-overflow-cast-if5
+cast-if5 : tie.Need-overflow_cast-lines
 cast-if5 c = search rules
 
-add-if5 : tie.Need-overflow-add-if5
+add-if5 : tie.Need-overflow_add-n
 add-if5 c = search rules
 
-mul-if5 : tie.Need-overflow-mul-if5
+mul-if5 : tie.Need-overflow_mul-lines
 mul-if5 c =
-    let first = c.before.before.before.before in
-    let start = entry first.before in
-    omega (arith, start.pre, mul-le-mul_right (48 + start.args.n) first.if1.false)
+    let start = entry c.before.before.before.before.before in
+    omega (arith, start.requires, mul-le-mul_right (48 + start.args.n) c.if-lines-gt60.false)
 
-refused-requires-5 : tie.Need-refused-requires-5
+refused-requires-5 : tie.Need-refused-requires-then-room-lines
 refused-requires-5 c κs = search rules
 
-returns-5 : tie.Need-returns-5
+returns-5 : tie.Need-returns-then-room-lines
 returns-5 c =
-    let past = c.before.before in
-    let first = past.before.before.before.before in
-    let args = (entry first.before).args in
-    let lines = first.before.total.result in
-    c.refused5.ensures ∙ sym (past-members past ∙ rw (sym (lines-few first).1, lt-ltb args.room (lines * (48 + args.n)) c.before.if5.true))
+    let args = (entry c.before.before.before.before.before.before.before).args in
+    let lines = c.total-lines.result in
+    c.refused-then-room-lines.ensures ∙ sym (past-members c.before.before ∙ rw (sym (lines-few c.before.before.before.before.before.before).1, lt-ltb args.room (lines * (48 + args.n)) c.if-room-lines.true))
 
-returns-6 : tie.Need-returns-6
+returns-6 : tie.Need-returns
 returns-6 c =
-    let past = c.before in
-    let first = past.before.before.before.before in
-    let args = (entry first.before).args in
-    let lines = first.before.total.result in
-    sym (past-members past ∙ rw (sym (lines-few first).1, le-ltb args.room (lines * (48 + args.n)) c.if5.false))
+    let args = (entry c.before.before.before.before.before.before).args in
+    let lines = c.total-lines.result in
+    sym (past-members c.before ∙ rw (sym (lines-few c.before.before.before.before.before).1, le-ltb args.room (lines * (48 + args.n)) c.if-room-lines.false))
 
-pub test-quotas-spec : {M : Type 1} → statement M
-test-quotas-spec =
+pub test_quotas_spec : {M : Type 1} → statement M
+test_quotas_spec =
     tie.close
     (tie.spec
     total-requires

@@ -16,49 +16,48 @@ use Rattle.houses.proofs.total.Tie as tie
 abbrev sum_to : List ℕ → ℕ → ℕ
 sum_to quotas c = sum_over (quota_by quotas) (below c)
 
-abbrev invariant-loop : tie.invariant-loop
-invariant-loop quotas sum₀ c₀ sum c = (c ≤ length quotas) × (sum ≡ min 61 (sum_to quotas c))
+abbrev invariant-loop-c : tie.invariant-loop-c
+invariant-loop-c quotas sum₀ c₀ sum c = (c ≤ length quotas) × (sum ≡ min 61 (sum_to quotas c))
 
-abbrev decreases-loop : tie.decreases-loop
-decreases-loop quotas sum₀ c₀ sum c = length quotas - c
+abbrev decreases-loop-c : tie.decreases-loop-c
+decreases-loop-c quotas sum₀ c₀ sum c = length quotas - c
 
-loop-holds : tie.Need-loop-init invariant-loop decreases-loop
-loop-holds c = omega (arith, sum-below-zero (quota_by c.before.args.quotas.now))
+loop-holds : tie.Need-loop-c-init invariant-loop-c decreases-loop-c
+loop-holds c = omega (arith, sum-below-zero (quota_by c.args.quotas.now))
 
-mul-add : tie.Need-overflow-mul-add invariant-loop decreases-loop
+mul-add : tie.Need-offset_bounds-quotas-c invariant-loop-c decreases-loop-c
 mul-add c = search rules
 
-shared-slice-read-add : tie.Need-shared-slice-read-add invariant-loop decreases-loop
+shared-slice-read-add : tie.Need-bounds-quotas-c invariant-loop-c decreases-loop-c
 shared-slice-read-add c = search rules
 
-add-requires : tie.Need-add-requires invariant-loop decreases-loop
+add-requires : tie.Need-add-sum-requires invariant-loop-c decreases-loop-c
 add-requires c κs = omega arith
 
-add-c : tie.Need-overflow-add-c invariant-loop decreases-loop
+add-c : tie.Need-overflow_add-c invariant-loop-c decreases-loop-c
 add-c c = search rules
 
-loop-less : tie.Need-loop-smaller invariant-loop decreases-loop
+loop-less : tie.Need-loop-c-smaller invariant-loop-c decreases-loop-c
 loop-less c = search rules
 
-loop-again : tie.Need-loop-preserved invariant-loop decreases-loop
+loop-again : tie.Need-loop-c-preserved invariant-loop-c decreases-loop-c
 loop-again c =
-    let at = c.before.before.before in
-    let quotas = at.before.before.args.quotas.now in
-    omega (arith, at.loop.invariant.1, c.add.ensures, sum-below-more (quota_by quotas) at.loop.c)
+    let quotas = c.args.quotas.now in
+    omega (arith, c.loop-c.invariant.1, c.add-sum.ensures, sum-below-more (quota_by quotas) c.loop-c.c)
 
-returns : tie.Need-returns invariant-loop decreases-loop
+returns : tie.Need-returns invariant-loop-c decreases-loop-c
 unfolding quota_sum
 returns c =
-    let quotas = c.before.before.before.args.quotas.now in
-    let e : c.before.loop.c ≡ length quotas = omega arith in
-    c.before.loop.invariant.1 ∙ ap (λ k. min 61 (sum_to quotas k)) e
+    let quotas = c.args.quotas.now in
+    let e : c.loop-c.c ≡ length quotas = omega arith in
+    c.loop-c.invariant.1 ∙ ap (λ k. min 61 (sum_to quotas k)) e
 
-pub total-spec : {M : Type 1} → statement M
-total-spec =
+pub total_spec : {M : Type 1} → statement M
+total_spec =
     tie.close
     (tie.spec
-    invariant-loop
-    decreases-loop
+    invariant-loop-c
+    decreases-loop-c
     loop-holds
     mul-add
     shared-slice-read-add

@@ -14,8 +14,8 @@ use Rattle.session.proofs.run.run.Statement.{statement}
 use Rattle.session.proofs.run.run.Tie as tie
 
 -- the entry, seen from the answer; the events and the slices lent
-abbrev start : tie.After-enum-told → tie.Start
-start c = c.before.before.before.before.before.before.before.before.before.before.before.before.before.before.before.before.before.before.before.before.before.before.before
+abbrev start : tie.In-Passed → tie.Start
+start c = c.before.before.before.before.before.before.before.before.before.before.before.before.before.before.before.before.before.before.before.before
 
 abbrev events : tie.Start → Lists
 events c = let args = c.args in lists args.kinds.now args.firsts.now args.seconds.now
@@ -26,90 +26,89 @@ lent c =
     slices args.starts.now args.links.now args.anchored.now args.levels.now args.layers.now args.components.now args.yields.now args.reached.now args.stamps.now args.status.now args.lifted.now args.redone.now
 
 -- the answer is that nothing is refused
-told : (c : tie.After-enum-told) → run_of (start c).args.given.now (events (start c)) (lent (start c)) ≡ Passed
-told c = sym c.before.before.admit.ensures ∙ c.enum_told.given.1
+told : (c : tie.In-Passed) → run_of (start c).args.given.now (events (start c)) (lent (start c)) ≡ Passed
+told c = sym c.admit-admitted.ensures ∙ c.in-Passed.is
 
 -- the call, seen from the end
-abbrev called : tie.After-slice-known22 → tie.After-write
+abbrev called : tie.After-slice_known-in-Passed-11-1 → tie.After-write
 called c = c.before.before.before.before.before.before.before.before.before.before.before.before.before.before.before.before.before.before.before.before.before.before.before
 
-slice-aggregate-admit : tie.Need-slice-aggregate-admit
+slice-aggregate-admit : tie.Need-slice_bounds-admit-end
 slice-aggregate-admit c = search rules
 
-slice-aggregate-admit-2 : tie.Need-slice-aggregate-admit-2
+slice-aggregate-admit-2 : tie.Need-slice_bounds-admit-end-2
 slice-aggregate-admit-2 c = search rules
 
-slice-aggregate-admit-3 : tie.Need-slice-aggregate-admit-3
+slice-aggregate-admit-3 : tie.Need-slice_bounds-admit-end-3
 slice-aggregate-admit-3 c = search rules
 
-admit-requires : tie.Need-admit-requires
+admit-requires : tie.Need-admit-admitted-requires
 admit-requires c κs = search rules
 
-enum-known-admitted : tie.Need-enum-known-admitted
+enum-known-admitted : tie.Need-enum_known-admitted
 enum-known-admitted c = search rules
 
-enum_told : tie.Need-enum-told
+enum_told : tie.Need-enum_told-1
 enum_told c = search rules
 
-measure-requires : tie.Need-measure-requires
-measure-requires c κs = let told_at = c.before.before in lent-sound _ _ (run_sound _ _ _ (events (start told_at)) _ (told told_at)).0.table
+measure-requires : tie.Need-measure-size-requires
+measure-requires c κs = lent-sound _ _ (run_sound _ _ _ (events (start c)) _ (told c)).0.table
 
 write-requires : tie.Need-write-requires
-write-requires c κs = let told_at = c.before.before.before.before.before.before.before.before.before.before.before.before.before.before.before in run_sound _ _ _ (events (start told_at)) _ (told told_at)
+write-requires c κs = run_sound _ _ _ (events (start c.before.before.before.before.before.before.before.before.before.before.before.before.before)) _ (told c.before.before.before.before.before.before.before.before.before.before.before.before.before)
 
-same_length : tie.Need-same-length
+same_length : tie.Need-shape_of-starts-in-Refused
 same_length c = search rules
 
-same-length-2 : tie.Need-same-length-2
+same-length-2 : tie.Need-shape_of-links-in-Refused
 same-length-2 c = search rules
 
-returns : tie.Need-returns
+returns : tie.Need-returns-in-Refused
 returns c =
-    let refused = sym c.before.before.before.admit.ensures ∙ c.before.admitted.given.1 in
+    let refused = sym c.admit-admitted.ensures ∙ c.in-Refused.is in
     ((sym (handed _ _ refused), sym (handed _ _ refused)), λ size e. let z : ◌≡◌ {A = ℕ} 0 1 = cc in absurd (omega arith))
 
-same-length-3 : tie.Need-same-length-3
-same-length-3 c = (called c).write.auto.0
+same-length-3 : tie.Need-shape_of-starts-in-Passed
+same-length-3 c = (called c).write.auto.starts
 
-same-length-4 : tie.Need-same-length-4
-same-length-4 c = (called c).write.auto.1.0
+same-length-4 : tie.Need-shape_of-links-in-Passed
+same-length-4 c = (called c).write.auto.links
 
-same-length-5 : tie.Need-same-length-5
-same-length-5 c = (called c).write.auto.1.1.1.1.1.1.0
+same-length-5 : tie.Need-shape_of-anchored
+same-length-5 c = (called c).write.auto.anchored
 
-same-length-6 : tie.Need-same-length-6
-same-length-6 c = (called c).write.auto.1.1.1.1.1.1.1.0
+same-length-6 : tie.Need-shape_of-levels
+same-length-6 c = (called c).write.auto.levels
 
-same-length-7 : tie.Need-same-length-7
-same-length-7 c = (called c).write.auto.1.1.1.1.1.1.1.1.0
+same-length-7 : tie.Need-shape_of-layers
+same-length-7 c = (called c).write.auto.layers
 
-same-length-8 : tie.Need-same-length-8
-same-length-8 c = (called c).write.auto.1.1.1.1.1.1.1.1.1.0
+same-length-8 : tie.Need-shape_of-components
+same-length-8 c = (called c).write.auto.components
 
-same-length-9 : tie.Need-same-length-9
-same-length-9 c = (called c).write.auto.1.1.1.1.1.1.1.1.1.1.0
+same-length-9 : tie.Need-shape_of-yields
+same-length-9 c = (called c).write.auto.yields
 
-same-length-10 : tie.Need-same-length-10
-same-length-10 c = (called c).write.auto.1.1.1.1.1.1.1.1.1.1.1.0
+same-length-10 : tie.Need-shape_of-reached
+same-length-10 c = (called c).write.auto.reached
 
-same-length-11 : tie.Need-same-length-11
-same-length-11 c = (called c).write.auto.1.1.1.1.1.1.1.1.1.1.1.1.0
+same-length-11 : tie.Need-shape_of-stamps
+same-length-11 c = (called c).write.auto.stamps
 
-same-length-12 : tie.Need-same-length-12
-same-length-12 c = (called c).write.auto.1.1.1.1.1.1.1.1.1.1.1.1.1.0
+same-length-12 : tie.Need-shape_of-status
+same-length-12 c = (called c).write.auto.status
 
-same-length-13 : tie.Need-same-length-13
-same-length-13 c = (called c).write.auto.1.1.1.1.1.1.1.1.1.1.1.1.1.1.0
+same-length-13 : tie.Need-shape_of-lifted
+same-length-13 c = (called c).write.auto.lifted
 
-same-length-14 : tie.Need-same-length-14
-same-length-14 c = (called c).write.auto.1.1.1.1.1.1.1.1.1.1.1.1.1.1.1.0
+same-length-14 : tie.Need-shape_of-redone
+same-length-14 c = (called c).write.auto.redone
 
-returns-2 : tie.Need-returns-2
+returns-2 : tie.Need-returns-in-Passed
 returns-2 c =
     let measured = (called c).before.before.before.before.before.before.before.before.before.before.before.before.before in
-    let told_at = measured.before.before.before in
-    let passed = told told_at in
-    ((ap Served measured.measure.ensures ∙ sym (cleared _ _ passed), (called c).write.ensures ∙ sym (cleared _ _ passed)), λ size e. session_claim _ _ _ _ (lent (start told_at)) refl refl passed)
+    let passed = told measured.before.before.before in
+    ((ap Served measured.measure-size.ensures ∙ sym (cleared _ _ passed), (called c).write.ensures ∙ sym (cleared _ _ passed)), λ size e. session_claim _ _ _ _ (lent (start measured.before.before.before)) refl refl passed)
 
 pub run_spec : {M : Type 1} → statement M
 run_spec =

@@ -21,16 +21,16 @@ same-slices : {s l a b c d f g h i j s1 l1 a1 b1 c1 d1 f1 g1 h1 i1 j1 : List ℕ
 same-slices ps pl pa pb pc pd pe pf pg ph pi pj = cc
 
 -- each call, seen from the next
-abbrev start : tie.After-serve → tie.Start
+abbrev start : tie.After-serve-kept → tie.Start
 start c = c.before.before.before.before.before.before.before.before.before.before.before.before.before.before.before.before.before.before.before.before.before
 
-abbrev served : tie.After-copy-sheet → tie.After-serve
+abbrev served : tie.After-copy_sheet → tie.After-serve-kept
 served c = c.before.before.before.before.before.before.before.before.before.before.before.before.before.before
 
-abbrev sheet-copied : tie.After-copy-rows → tie.After-copy-sheet
+abbrev sheet-copied : tie.After-copy_rows → tie.After-copy_sheet
 sheet-copied c = c.before.before.before.before.before.before.before.before.before.before.before
 
-abbrev rows-copied : tie.After-slice-known22 → tie.After-copy-rows
+abbrev rows-copied : tie.After-slice_known-22-1 → tie.After-copy_rows
 rows-copied c = c.before.before.before.before.before.before.before
 
 -- the lengths of the slices, and that they are small
@@ -42,60 +42,59 @@ fits c = sized-fits c.requires.1
 small : (c : tie.Start) → vertices c.args.starts.now ≤ 1024
 small c = (lent-sound _ _ c.requires.0.table).small
 
-serve-requires : tie.Need-serve-requires
+serve-requires : tie.Need-serve-kept-requires
 serve-requires c κs =
-    let entry = c.before.before.before.before.before.before.before.before.before.before.before.before.before.before.before.before.before.before.before.before in
-    (entry.requires.0, ((fits entry).status, ((fits entry).lifted, (fits entry).redone)))
+    (c.requires.0, ((fits c.before.before.before.before.before.before.before.before.before.before.before.before.before.before.before.before.before.before.before.before).status-1, ((fits c.before.before.before.before.before.before.before.before.before.before.before.before.before.before.before.before.before.before.before.before).lifted-1, (fits c.before.before.before.before.before.before.before.before.before.before.before.before.before.before.before.before.before.before.before.before).redone-1)))
 
-copy-sheet-requires : tie.Need-copy-sheet-requires
+copy-sheet-requires : tie.Need-copy_sheet-requires
 copy-sheet-requires c κs =
     let entry = start c.before.before.before.before.before.before.before.before.before.before.before.before.before in
-    (omega (arith, small entry, (fits entry).levels), omega (arith, small entry, (fits entry).layers), omega (arith, small entry, (fits entry).components))
+    (omega (arith, small entry, (fits entry).levels-1), omega (arith, small entry, (fits entry).layers-1), omega (arith, small entry, (fits entry).components-1))
 
-copy-rows-requires : tie.Need-copy-rows-requires
+copy-rows-requires : tie.Need-copy_rows-requires
 copy-rows-requires c κs =
     let after = served c.before.before.before.before.before.before.before.before.before.before in
     let entry = start after in
-    let right = after.serve.ensures.0.1.right in (
-      (omega (arith, small entry, (fits entry).anchored), omega (arith, small entry, (fits entry).yields), omega (arith, small entry, (fits entry).reached), omega (arith, small entry, (fits entry).stamps)),
-      λ v h. right-small right v (omega (arith, (fits entry).yields, after.serve.kept.0)),
+    let right = after.serve-kept.ensures.0.1.right in (
+      (omega (arith, small entry, (fits entry).anchored-1), omega (arith, small entry, (fits entry).yields-1), omega (arith, small entry, (fits entry).reached-1), omega (arith, small entry, (fits entry).stamps-1)),
+      λ v h. right-small right v (omega (arith, (fits entry).yields-1, after.serve-kept.kept.0)),
     )
 
-same_length : tie.Need-same-length
-same_length c = (served (sheet-copied (rows-copied c))).serve.auto.0
+same_length : tie.Need-shape_of-starts
+same_length c = (served (sheet-copied (rows-copied c))).serve-kept.auto.starts
 
-same-length-2 : tie.Need-same-length-2
-same-length-2 c = (served (sheet-copied (rows-copied c))).serve.auto.1.0
+same-length-2 : tie.Need-shape_of-links
+same-length-2 c = (served (sheet-copied (rows-copied c))).serve-kept.auto.links
 
-same-length-3 : tie.Need-same-length-3
-same-length-3 c = (rows-copied c).copy-rows.auto.1.0
+same-length-3 : tie.Need-shape_of-anchored
+same-length-3 c = (rows-copied c).copy_rows.auto.anchored
 
-same-length-4 : tie.Need-same-length-4
-same-length-4 c = (sheet-copied (rows-copied c)).copy-sheet.auto.1.0
+same-length-4 : tie.Need-shape_of-levels
+same-length-4 c = (sheet-copied (rows-copied c)).copy_sheet.auto.levels
 
-same-length-5 : tie.Need-same-length-5
-same-length-5 c = (sheet-copied (rows-copied c)).copy-sheet.auto.1.1.0
+same-length-5 : tie.Need-shape_of-layers
+same-length-5 c = (sheet-copied (rows-copied c)).copy_sheet.auto.layers
 
-same-length-6 : tie.Need-same-length-6
-same-length-6 c = (sheet-copied (rows-copied c)).copy-sheet.auto.1.1.1.0
+same-length-6 : tie.Need-shape_of-components
+same-length-6 c = (sheet-copied (rows-copied c)).copy_sheet.auto.components
 
-same-length-7 : tie.Need-same-length-7
-same-length-7 c = (rows-copied c).copy-rows.auto.1.1.0
+same-length-7 : tie.Need-shape_of-yields
+same-length-7 c = (rows-copied c).copy_rows.auto.yields
 
-same-length-8 : tie.Need-same-length-8
-same-length-8 c = (rows-copied c).copy-rows.auto.1.1.1.0
+same-length-8 : tie.Need-shape_of-reached
+same-length-8 c = (rows-copied c).copy_rows.auto.reached
 
-same-length-9 : tie.Need-same-length-9
-same-length-9 c = (rows-copied c).copy-rows.auto.1.1.1.1.0
+same-length-9 : tie.Need-shape_of-stamps
+same-length-9 c = (rows-copied c).copy_rows.auto.stamps
 
-same-length-10 : tie.Need-same-length-10
-same-length-10 c = (served (sheet-copied (rows-copied c))).serve.auto.1.1.1.1.1.1.0
+same-length-10 : tie.Need-shape_of-status
+same-length-10 c = (served (sheet-copied (rows-copied c))).serve-kept.auto.status
 
-same-length-11 : tie.Need-same-length-11
-same-length-11 c = (served (sheet-copied (rows-copied c))).serve.auto.1.1.1.1.1.1.1.0
+same-length-11 : tie.Need-shape_of-lifted
+same-length-11 c = (served (sheet-copied (rows-copied c))).serve-kept.auto.lifted
 
-same-length-12 : tie.Need-same-length-12
-same-length-12 c = (served (sheet-copied (rows-copied c))).serve.auto.1.1.1.1.1.1.1.1.0
+same-length-12 : tie.Need-shape_of-redone
+same-length-12 c = (served (sheet-copied (rows-copied c))).serve-kept.auto.redone
 
 returns : tie.Need-returns
 returns c =
@@ -103,20 +102,20 @@ returns c =
     let sheet = sheet-copied rows in
     let after = served sheet in
     let lent = fits (start after) in
-    let end = after.serve.ensures in
+    let end = after.serve-kept.ensures in
     let table = end.0.0 in
     let keeps = end.0.1 in
-    let size = ap (λ k. k - 1) after.serve.kept.0 in
+    let size = ap (λ k. k - 1) after.serve-kept.kept.0 in
     same-slices
     (table-starts table)
     (table-links table)
-    (copied_out _ _ _ _ _ rows.copy-rows.ensures.0 lent.anchored (end-anchored table keeps size))
-    (copied_out _ _ _ _ _ sheet.copy-sheet.ensures.0 lent.levels (end-levels table keeps size))
-    (copied_out _ _ _ _ _ sheet.copy-sheet.ensures.1.0 lent.layers (end-layers table keeps size))
-    (copied_out _ _ _ _ _ sheet.copy-sheet.ensures.1.1 lent.components (end-components table keeps size))
-    (copied_out _ _ _ _ _ rows.copy-rows.ensures.1.0 lent.yields (end-yields table keeps size))
-    (copied_out _ _ _ _ _ rows.copy-rows.ensures.1.1.0 lent.reached (end-reached table keeps size end.0.2))
-    (copied_out _ _ _ _ _ rows.copy-rows.ensures.1.1.1 lent.stamps (end-stamps table keeps size))
+    (copied_out _ _ _ _ _ rows.copy_rows.ensures.0 lent.anchored-1 (end-anchored table keeps size))
+    (copied_out _ _ _ _ _ sheet.copy_sheet.ensures.0 lent.levels-1 (end-levels table keeps size))
+    (copied_out _ _ _ _ _ sheet.copy_sheet.ensures.1.0 lent.layers-1 (end-layers table keeps size))
+    (copied_out _ _ _ _ _ sheet.copy_sheet.ensures.1.1 lent.components-1 (end-components table keeps size))
+    (copied_out _ _ _ _ _ rows.copy_rows.ensures.1.0 lent.yields-1 (end-yields table keeps size))
+    (copied_out _ _ _ _ _ rows.copy_rows.ensures.1.1.0 lent.reached-1 (end-reached table keeps size end.0.2))
+    (copied_out _ _ _ _ _ rows.copy_rows.ensures.1.1.1 lent.stamps-1 (end-stamps table keeps size))
     end.1.0
     end.1.1.0
     end.1.1.1
