@@ -24,8 +24,8 @@ use Rattle.search.specs.Answers.{search_of, followers_of}
 use Rattle.search.specs.declared.operation.Searched.TheVariants.{Found}
 use Rattle.ceiling.specs.Answers.{start_of, ceiling_of}
 use Rattle.ceiling.specs.declared.Bounded.TheVariants.{Ceiling, Refused}
-
 -- the computed cases come before the laws, so that a wrong definition is refused at a figure
+use Rattle.ceiling.specs.Cases.{refusals}
 
 module _ (s l a lev lay : List ℕ) (x : ℕ) where
   -- refused as the search is that is lent n bytes for its marks: with the same number, at the same place
