@@ -4,46 +4,46 @@
 
 use answer::Answered;
 use cases::print::text;
-use cases::read::field;
-use libc::STDIN_FILENO;
+use cases::read::{field, input};
+use std::io;
 
 // Prints `NAME: sheet of SIZE bytes` or `NAME: refused NUMBER PLACE`.
-fn show(name: &[u8], answer: Answered) {
+fn show(rt: &impl Print, name: &[u8], answer: Answered) -> io::Result<()> {
     match answer {
         Answered::Sheet(size) => {
-            text(name);
-            text(b": sheet of");
-            cases::print::number(size);
-            text(b" bytes\n");
+            text(rt, name)?;
+            text(rt, b": sheet of")?;
+            cases::print::number(rt, size)?;
+            text(rt, b" bytes\n")
         }
-        Answered::Refused(refusal) => cases::print::refusal(name, b":", refusal),
+        Answered::Refused(refusal) => cases::print::refusal(rt, name, b":", refusal),
     }
 }
 
-fn run(case: &[u8]) {
+fn run(rt: &impl Print, case: &[u8]) -> io::Result<()> {
     let mut sheet = [0u8; 64320];
     let size = cases::read::value(field(case, b':', 1));
-    let room = io::count(size as isize, &sheet);
+    let room = (size as usize).min(sheet.len());
     let answer = answer::text_to_sheet(field(case, b':', 2), &mut sheet[..room]);
-    show(field(case, b':', 0), answer);
+    show(rt, field(case, b':', 0), answer)
 }
 
-fn run_cases(texts: &[u8]) {
+fn run_cases(rt: &impl Print, texts: &[u8]) -> io::Result<()> {
     for k in 0..15 {
-        run(field(texts, b';', k));
+        run(rt, field(texts, b';', k))?;
     }
+    Ok(())
 }
 
-fn run_long() {
+fn run_long(rt: &impl Print) -> io::Result<()> {
     let long = [b'x'; 65537];
     let mut sheet = [0u8; 48];
     let answer = answer::text_to_sheet(&long, &mut sheet);
-    show(b"65,537 bytes", answer);
+    show(rt, b"65,537 bytes", answer)
 }
 
-fn main() {
-    let mut texts = [0u8; 2048];
-    let read = io::read_full(STDIN_FILENO, &mut texts);
-    run_cases(&texts[..read]);
-    run_long();
+fn main(rt: HostRuntime) -> io::Result<()> {
+    let texts = input(&rt, 2048)?;
+    run_cases(&rt, texts.as_slice())?;
+    run_long(&rt)
 }

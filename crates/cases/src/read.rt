@@ -1,6 +1,15 @@
-// Fields of a text, parted by a mark, and the numbers of a field.
-ghost use Rattle.std.specs.Prelude.{◌≤◌, length};
-ghost use Rattle.io.specs.Counts.{IsPrefixLen};
+// Standard input, fields of a text, parted by a mark, and the numbers of a field.
+ghost use Rattle.std.specs.Prelude.{◌≡◌, ◌≤◌, length, take};
+
+use std::io;
+use std::io::Read;
+
+// The first so many bytes of standard input, or all of it.
+pub fn input(rt: &(impl Input + AllocGlobal), most: u64) -> io::Result<Vec<u8>> {
+    let mut text = Vec::new(rt.alloc());
+    rt.reader().take(most).read_to_end(&mut text)?;
+    Ok(text)
+}
 
 // The place behind the k-th mark, or the text's end.
 fn start(text: &[u8], mark: u8, k: usize) -> usize
@@ -60,7 +69,7 @@ pub fn value(digits: &[u8]) -> u16 {
 
 // The numbers of a field, each behind a space, as many as there is room for; how many they are.
 pub fn numbers(text: &[u8], to: &mut [u16]) -> usize
-    ensures { IsPrefixLen result to.new }
+    ensures { (result ≤ length to.new) × (result ≡ length (take result to.new)) }
 {
     let mut k: usize = 0;
     while k < to.len() {
@@ -76,7 +85,7 @@ pub fn numbers(text: &[u8], to: &mut [u16]) -> usize
 
 // The same, where each number is a byte.
 pub fn bytes(text: &[u8], to: &mut [u8]) -> usize
-    ensures { IsPrefixLen result to.new }
+    ensures { (result ≤ length to.new) × (result ≡ length (take result to.new)) }
 {
     let mut k: usize = 0;
     while k < to.len() {

@@ -1,17 +1,18 @@
 // Prints the numbers from 0 to 9,999 as the answer sheet has them in its fields of four digits, a line each.
 #![tactic(auto)]
 
-use libc::STDOUT_FILENO;
+use std::io;
 
-fn print_number(v: u16) {
+fn print_number(rt: &impl Print, v: u16) -> io::Result<()> {
     let mut field = [0u8; 4];
     let end = sheet::line::put_four(&mut field, 0, v);
-    io::write_all(STDOUT_FILENO, &field[..end]);
-    io::write_all(STDOUT_FILENO, b"\n");
+    rt.write_all(&field[..end])?;
+    rt.write_all(b"\n")
 }
 
-fn main() {
+fn main(rt: HostRuntime) -> io::Result<()> {
     for v in 0..10000 {
-        print_number(v);
+        print_number(&rt, v)?;
     }
+    Ok(())
 }

@@ -3,23 +3,24 @@
 #![tactic(auto)]
 
 use cases::print::{number, text};
-use cases::read::{bytes, field, numbers, value};
+use cases::read::{bytes, field, input, numbers, value};
 use houses::Shared;
-use libc::STDIN_FILENO;
+use std::io;
 
-fn print_answer(name: &[u8], answer: Shared) {
+fn print_answer(rt: &impl Print, name: &[u8], answer: Shared) -> io::Result<()> {
     match answer {
         Shared::Sheet(length, size) => {
-            text(name);
-            text(b" sheet");
-            number(length);
-            cases::print::end_size(size);
+            text(rt, name)?;
+            text(rt, b" sheet")?;
+            number(rt, length)?;
+            cases::print::end_size(rt, size)
         }
-        Shared::Refused(refusal) => cases::print::refusal(name, b"", refusal),
+        Shared::Refused(refusal) => cases::print::refusal(rt, name, b"", refusal),
     }
 }
 
 fn run(
+    rt: &impl Print,
     line: &[u8],
     starts: &[u16],
     links: &[u16],
@@ -27,26 +28,28 @@ fn run(
     house: &[u16],
     quotas: &[u16],
     sheet: &mut [u8],
-) {
+) -> io::Result<()> {
     let answer = houses::share_rounds(starts, links, anchored, house, quotas, sheet);
-    print_answer(field(line, b':', 0), answer);
-    text(sheet);
-    text(b"\n");
+    print_answer(rt, field(line, b':', 0), answer)?;
+    text(rt, sheet)?;
+    text(rt, b"\n")
 }
 
 // The lent bytes, of which there are at most 400.
 fn run_in(
+    rt: &impl Print,
     line: &[u8],
     starts: &[u16],
     links: &[u16],
     anchored: &[u8],
     house: &[u16],
     quotas: &[u16],
-) {
+) -> io::Result<()> {
     let mut sheet = [b'-'; 400];
     let room = value(field(line, b':', 6)) as usize;
     if room <= 400 {
-        run(
+        return run(
+            rt,
             line,
             starts,
             links,
@@ -56,9 +59,10 @@ fn run_in(
             &mut sheet[..room],
         );
     }
+    Ok(())
 }
 
-fn run_line(line: &[u8]) {
+fn run_line(rt: &impl Print, line: &[u8]) -> io::Result<()> {
     let mut starts = [0u16; 6];
     let mut links = [0u16; 12];
     let mut anchored = [0u8; 6];
@@ -70,23 +74,24 @@ fn run_line(line: &[u8]) {
     let h = numbers(field(line, b':', 4), &mut house);
     let q = numbers(field(line, b':', 5), &mut quotas);
     run_in(
+        rt,
         line,
         &starts[..s],
         &links[..l],
         &anchored[..a],
         &house[..h],
         &quotas[..q],
-    );
+    )
 }
 
-fn run_lines(lines: &[u8]) {
+fn run_lines(rt: &impl Print, lines: &[u8]) -> io::Result<()> {
     for k in 0..26 {
-        run_line(field(lines, b'\n', k));
+        run_line(rt, field(lines, b'\n', k))?;
     }
+    Ok(())
 }
 
-fn main() {
-    let mut lines = [0u8; 4096];
-    let read = io::read_full(STDIN_FILENO, &mut lines);
-    run_lines(&lines[..read]);
+fn main(rt: HostRuntime) -> io::Result<()> {
+    let lines = input(&rt, 4096)?;
+    run_lines(&rt, lines.as_slice())
 }

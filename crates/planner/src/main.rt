@@ -5,7 +5,8 @@ ghost use Rattle.std.specs.Prelude.{◌≡◌, ◌≤◌, length, take};
 ghost use Rattle.io.specs.Counts.{IsPrefixLen};
 ghost use Rattle.answer.specs.Answer.{answer_of, sheet_of_text, printed};
 
-use libc::{STDIN_FILENO, STDOUT_FILENO};
+use std::io;
+use std::io::Read;
 
 // What is printed for a text, at the front of `out`, and its length.
 fn print(text: &[u8], out: &mut [u8]) -> usize
@@ -23,10 +24,10 @@ fn print(text: &[u8], out: &mut [u8]) -> usize
 }
 
 // 65,537 bytes are enough to tell a text that is too long, and 64,320 hold every sheet.
-fn main() {
-    let mut text = [0u8; 65537];
-    let read = io::read_full(STDIN_FILENO, &mut text);
+fn main(rt: HostRuntime) -> io::Result<()> {
+    let mut text = Vec::new(rt.alloc());
+    rt.reader().take(65537).read_to_end(&mut text)?;
     let mut out = [0u8; 64320];
-    let size = print(&text[..read], &mut out);
-    io::write_all(STDOUT_FILENO, &out[..size]);
+    let size = print(text.as_slice(), &mut out);
+    rt.write_all(&out[..size])
 }

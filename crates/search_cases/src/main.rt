@@ -4,36 +4,38 @@
 #![tactic(auto)]
 
 use cases::print::{number, text};
-use cases::read::{bytes, field, numbers};
+use cases::read::{bytes, field, input, numbers};
 use ceiling::Bounded;
 use collapse::Collapsed;
-use libc::STDIN_FILENO;
 use search::Searched;
+use std::io;
 
-fn print_marks(name: &[u8], title: &[u8], marks: &[u8]) {
-    text(name);
-    text(title);
+fn print_marks(rt: &impl Print, name: &[u8], title: &[u8], marks: &[u8]) -> io::Result<()> {
+    text(rt, name)?;
+    text(rt, title)?;
     let mut v: usize = 0;
     while v < marks.len() {
-        number(marks[v] as usize);
+        number(rt, marks[v] as usize)?;
         v += 1;
     }
+    Ok(())
 }
 
-fn print_found(answer: Searched) {
+fn print_found(rt: &impl Print, answer: Searched) -> io::Result<()> {
     match answer {
         Searched::Found(lifted, reached, size) => {
-            text(b" lifted");
-            number(lifted);
-            text(b" reached");
-            number(reached);
-            cases::print::end_size(size);
+            text(rt, b" lifted")?;
+            number(rt, lifted)?;
+            text(rt, b" reached")?;
+            number(rt, reached)?;
+            cases::print::end_size(rt, size)
         }
-        Searched::Refused(refusal) => cases::print::refusal(b"", b"", refusal),
+        Searched::Refused(refusal) => cases::print::refusal(rt, b"", b"", refusal),
     }
 }
 
 fn search(
+    rt: &impl Print,
     name: &[u8],
     starts: &[u16],
     links: &[u16],
@@ -42,23 +44,24 @@ fn search(
     layers: &[u16],
     x: usize,
     marks: &mut [u8],
-) {
+) -> io::Result<()> {
     let answer = search::followers(starts, links, anchored, levels, layers, x, marks);
-    print_marks(name, b" marks", marks);
-    print_found(answer);
+    print_marks(rt, name, b" marks", marks)?;
+    print_found(rt, answer)
 }
 
-fn print_bounded(answer: Bounded) {
+fn print_bounded(rt: &impl Print, answer: Bounded) -> io::Result<()> {
     match answer {
         Bounded::Ceiling(bound, size) => {
-            number(bound as usize);
-            cases::print::end_size(size);
+            number(rt, bound as usize)?;
+            cases::print::end_size(rt, size)
         }
-        Bounded::Refused(refusal) => cases::print::refusal(b"", b"", refusal),
+        Bounded::Refused(refusal) => cases::print::refusal(rt, b"", b"", refusal),
     }
 }
 
 fn ceiling(
+    rt: &impl Print,
     name: &[u8],
     starts: &[u16],
     links: &[u16],
@@ -66,20 +69,24 @@ fn ceiling(
     levels: &[u16],
     layers: &[u16],
     x: usize,
-) {
-    text(name);
-    text(b" ceiling");
-    print_bounded(ceiling::ceiling(starts, links, anchored, levels, layers, x));
+) -> io::Result<()> {
+    text(rt, name)?;
+    text(rt, b" ceiling")?;
+    print_bounded(
+        rt,
+        ceiling::ceiling(starts, links, anchored, levels, layers, x),
+    )
 }
 
-fn print_collapsed(answer: Collapsed) {
+fn print_collapsed(rt: &impl Print, answer: Collapsed) -> io::Result<()> {
     match answer {
-        Collapsed::Marked(size) => cases::print::sound(b"", b"", size),
-        Collapsed::Refused(refusal) => cases::print::refusal(b"", b"", refusal),
+        Collapsed::Marked(size) => cases::print::sound(rt, b"", b"", size),
+        Collapsed::Refused(refusal) => cases::print::refusal(rt, b"", b"", refusal),
     }
 }
 
 fn collapse(
+    rt: &impl Print,
     name: &[u8],
     starts: &[u16],
     links: &[u16],
@@ -88,14 +95,15 @@ fn collapse(
     layers: &[u16],
     x: usize,
     marks: &mut [u8],
-) {
+) -> io::Result<()> {
     let answer = collapse::collapse(starts, links, anchored, levels, layers, x, marks);
-    print_marks(name, b" falls", marks);
-    print_collapsed(answer);
+    print_marks(rt, name, b" falls", marks)?;
+    print_collapsed(rt, answer)
 }
 
 // The search for operation 0, the ceiling for 1, and the collapse for any other.
 fn call(
+    rt: &impl Print,
     operation: u8,
     name: &[u8],
     starts: &[u16],
@@ -105,19 +113,24 @@ fn call(
     layers: &[u16],
     x: usize,
     marks: &mut [u8],
-) {
+) -> io::Result<()> {
     if operation == 0 {
-        search(name, starts, links, anchored, levels, layers, x, marks);
-        return;
+        return search(rt, name, starts, links, anchored, levels, layers, x, marks);
     }
     if operation == 1 {
-        ceiling(name, starts, links, anchored, levels, layers, x);
-        return;
+        return ceiling(rt, name, starts, links, anchored, levels, layers, x);
     }
-    collapse(name, starts, links, anchored, levels, layers, x, marks);
+    collapse(rt, name, starts, links, anchored, levels, layers, x, marks)
 }
 
-fn run(line: &[u8], starts: &[u16], links: &[u16], anchored: &[u8], operation: u8) {
+fn run(
+    rt: &impl Print,
+    line: &[u8],
+    starts: &[u16],
+    links: &[u16],
+    anchored: &[u8],
+    operation: u8,
+) -> io::Result<()> {
     let mut levels = [0u16; 5];
     let mut layers = [0u16; 5];
     let mut marks = [0u8; 5];
@@ -125,6 +138,7 @@ fn run(line: &[u8], starts: &[u16], links: &[u16], anchored: &[u8], operation: u
     let m = numbers(field(line, b':', 5), &mut layers);
     let room = bytes(field(line, b':', 7), &mut marks);
     call(
+        rt,
         operation,
         field(line, b':', 0),
         starts,
@@ -134,29 +148,29 @@ fn run(line: &[u8], starts: &[u16], links: &[u16], anchored: &[u8], operation: u
         &layers[..m],
         cases::read::value(field(line, b':', 6)) as usize,
         &mut marks[..room],
-    );
+    )
 }
 
-fn run_line(line: &[u8]) {
+fn run_line(rt: &impl Print, line: &[u8]) -> io::Result<()> {
     let mut starts = [0u16; 6];
     let mut links = [0u16; 12];
     let mut anchored = [0u8; 5];
     let s = numbers(field(line, b':', 1), &mut starts);
     let l = numbers(field(line, b':', 2), &mut links);
     let a = bytes(field(line, b':', 3), &mut anchored);
-    run(line, &starts[..s], &links[..l], &anchored[..a], 0);
-    run(line, &starts[..s], &links[..l], &anchored[..a], 1);
-    run(line, &starts[..s], &links[..l], &anchored[..a], 2);
+    run(rt, line, &starts[..s], &links[..l], &anchored[..a], 0)?;
+    run(rt, line, &starts[..s], &links[..l], &anchored[..a], 1)?;
+    run(rt, line, &starts[..s], &links[..l], &anchored[..a], 2)
 }
 
-fn run_lines(lines: &[u8]) {
+fn run_lines(rt: &impl Print, lines: &[u8]) -> io::Result<()> {
     for k in 0..46 {
-        run_line(field(lines, b'\n', k));
+        run_line(rt, field(lines, b'\n', k))?;
     }
+    Ok(())
 }
 
-fn main() {
-    let mut lines = [0u8; 4096];
-    let read = io::read_full(STDIN_FILENO, &mut lines);
-    run_lines(&lines[..read]);
+fn main(rt: HostRuntime) -> io::Result<()> {
+    let lines = input(&rt, 4096)?;
+    run_lines(&rt, lines.as_slice())
 }

@@ -5,40 +5,36 @@
 
 ghost use Rattle.std.specs.Prelude.{◌≤◌, length};
 
-use cases::print::{number, row, rows, text};
-use libc::STDOUT_FILENO;
+use cases::print::{row, rows, text};
 use session::run::Ran;
+use std::io;
 
-fn print_ran(name: &[u8], answer: Ran) {
+fn print_ran(rt: &impl Print, name: &[u8], answer: Ran) -> io::Result<()> {
     match answer {
-        Ran::Served(size) => cases::print::sound(name, b"", size),
-        Ran::Refused(refusal) => cases::print::refusal(name, b"", refusal),
+        Ran::Served(size) => cases::print::sound(rt, name, b"", size),
+        Ran::Refused(refusal) => cases::print::refusal(rt, name, b"", refusal),
     }
 }
 
 // ` NUMBER`, with its sign where it is below 0.
-fn print_yield(value: i16) {
-    if value < 0 {
-        text(b" -");
-        io::print_decimal(STDOUT_FILENO, (0 - value as i64) as u64);
-        return;
-    }
-    number(value as usize);
+fn print_yield(rt: &impl Print, value: i16) -> io::Result<()> {
+    print!(rt; " {value}")
 }
 
-fn print_yields(name: &[u8], yields: &[i16]) {
-    text(name);
-    text(b" yields");
+fn print_yields(rt: &impl Print, name: &[u8], yields: &[i16]) -> io::Result<()> {
+    text(rt, name)?;
+    text(rt, b" yields")?;
     let mut i: usize = 0;
     while i < yields.len() {
-        print_yield(yields[i]);
+        print_yield(rt, yields[i])?;
         i += 1;
     }
-    text(b"\n");
+    text(rt, b"\n")
 }
 
 // Runs the events on a table that is lent, and prints the table and the record as they are afterwards.
 fn run(
+    rt: &impl Print,
     name: &[u8],
     starts: &mut [u16],
     links: &mut [u16],
@@ -46,7 +42,7 @@ fn run(
     kinds: &[u16],
     firsts: &[u16],
     seconds: &[u16],
-)
+) -> io::Result<()>
     requires given_len_bound { length given.now ≤ 4 }
     requires kinds_len_bound { length kinds.now ≤ 4097 }
 {
@@ -80,16 +76,31 @@ fn run(
         &mut lifted[..m],
         &mut redone[..m],
     );
-    print_ran(name, answer);
-    rows(name, b" status: lifted: redone", &status, &lifted, &redone);
-    rows(name, b" stamps: levels: layers", &stamps, &levels, &layers);
-    row(name, b" components", &components);
-    print_yields(name, &yields);
-    row(name, b" reached", &reached);
+    print_ran(rt, name, answer)?;
+    rows(
+        rt,
+        name,
+        b" status: lifted: redone",
+        &status,
+        &lifted,
+        &redone,
+    )?;
+    rows(
+        rt,
+        name,
+        b" stamps: levels: layers",
+        &stamps,
+        &levels,
+        &layers,
+    )?;
+    row(rt, name, b" components", &components)?;
+    print_yields(rt, name, &yields)?;
+    row(rt, name, b" reached", &reached)
 }
 
 // The table with 7s behind its links, its events, and the table after them.
 fn run_on(
+    rt: &impl Print,
     name: &[u8],
     starts: &mut [u16],
     links: &[u16],
@@ -97,16 +108,16 @@ fn run_on(
     kinds: &[u16],
     firsts: &[u16],
     seconds: &[u16],
-)
+) -> io::Result<()>
     requires given_len_bound { length given.now ≤ 4 }
     requires kinds_len_bound { length kinds.now ≤ 4097 }
 {
     let mut places = [7u16; 16384];
     put(links, &mut places);
-    rows(name, b" kinds: firsts: seconds", kinds, firsts, seconds);
-    run(name, starts, &mut places, given, kinds, firsts, seconds);
-    row(name, b" starts", starts);
-    row(name, b" links", &places);
+    rows(rt, name, b" kinds: firsts: seconds", kinds, firsts, seconds)?;
+    run(rt, name, starts, &mut places, given, kinds, firsts, seconds)?;
+    row(rt, name, b" starts", starts)?;
+    row(rt, name, b" links", &places)
 }
 
 // Copies links to the front.
@@ -120,8 +131,9 @@ fn put(links: &[u16], places: &mut [u16]) {
     }
 }
 
-fn run_limits() {
+fn run_limits(rt: &impl Print) -> io::Result<()> {
     run_on(
+        rt,
         b"4096 events",
         &mut [0, 0],
         &[],
@@ -129,8 +141,9 @@ fn run_limits() {
         &[0; 4096],
         &[0; 4096],
         &[0; 4096],
-    );
+    )?;
     run_on(
+        rt,
         b"4097 events",
         &mut [0, 0],
         &[],
@@ -138,11 +151,12 @@ fn run_limits() {
         &[0; 4097],
         &[0; 4097],
         &[0; 4097],
-    );
+    )
 }
 
-fn run_chains() {
+fn run_chains(rt: &impl Print) -> io::Result<()> {
     run_on(
+        rt,
         b"still",
         &mut [0, 1, 3, 5, 6],
         &[1, 0, 2, 1, 3, 2],
@@ -150,8 +164,9 @@ fn run_chains() {
         &[],
         &[],
         &[],
-    );
+    )?;
     run_on(
+        rt,
         b"chain",
         &mut [0, 1, 3, 5, 6],
         &[1, 0, 2, 1, 3, 2],
@@ -159,8 +174,9 @@ fn run_chains() {
         &[0, 0, 0, 0],
         &[0, 0, 3, 9],
         &[9, 8, 7, 6],
-    );
+    )?;
     run_on(
+        rt,
         b"ring",
         &mut [0, 1, 3, 5, 6],
         &[1, 0, 2, 1, 3, 2],
@@ -168,11 +184,11 @@ fn run_chains() {
         &[0, 1, 2, 1],
         &[0, 0, 1, 3],
         &[7, 3, 2, 3],
-    );
+    )
 }
 
-fn main() {
-    run_chains();
-    run_on(b"nobody", &mut [0], &[], &[], &[1], &[0], &[0]);
-    run_limits();
+fn main(rt: HostRuntime) -> io::Result<()> {
+    run_chains(&rt)?;
+    run_on(&rt, b"nobody", &mut [0], &[], &[], &[1], &[0], &[0])?;
+    run_limits(&rt)
 }

@@ -4,16 +4,16 @@
 
 ghost use Rattle.std.specs.Prelude.{◌≡◌, ◌<◌, length};
 
-use cases::read::{field, numbers};
-use libc::STDIN_FILENO;
+use cases::read::{field, input, numbers};
+use std::io;
 use table::Checked;
 
 // Prints `NAME: sound` and the size, or `NAME: refused NUMBER PLACE`.
-fn run(name: &[u8], starts: &[u16], links: &[u16]) {
+fn run(rt: &impl Print, name: &[u8], starts: &[u16], links: &[u16]) -> io::Result<()> {
     let answer = table::check(starts, links);
     match answer {
-        Checked::Sound(size) => cases::print::sound(name, b":", size),
-        Checked::Refused(refusal) => cases::print::refusal(name, b":", refusal),
+        Checked::Sound(size) => cases::print::sound(rt, name, b":", size),
+        Checked::Refused(refusal) => cases::print::refusal(rt, name, b":", refusal),
     }
 }
 
@@ -67,37 +67,37 @@ fn all_links() -> [u16; 16386]
     links
 }
 
-fn run_vertices() {
+fn run_vertices(rt: &impl Print) -> io::Result<()> {
     let zeros = [0u16; 1026];
-    run(b"1024 vertices", &zeros[0..1025], &[]);
-    run(b"1025 vertices", &zeros, &[]);
+    run(rt, b"1024 vertices", &zeros[0..1025], &[])?;
+    run(rt, b"1025 vertices", &zeros, &[])
 }
 
-fn run_links() {
+fn run_links(rt: &impl Print) -> io::Result<()> {
     let starts = all_starts();
     let links = all_links();
-    run(b"16384 links", &starts[0..193], &links[0..16384]);
-    run(b"16386 links", &starts, &links);
+    run(rt, b"16384 links", &starts[0..193], &links[0..16384])?;
+    run(rt, b"16386 links", &starts, &links)
 }
 
-fn run_line(line: &[u8]) {
+fn run_line(rt: &impl Print, line: &[u8]) -> io::Result<()> {
     let mut starts = [0u16; 5];
     let mut links = [0u16; 6];
     let s = numbers(field(line, b':', 1), &mut starts);
     let l = numbers(field(line, b':', 2), &mut links);
-    run(field(line, b':', 0), &starts[..s], &links[..l]);
+    run(rt, field(line, b':', 0), &starts[..s], &links[..l])
 }
 
-fn run_lines(text: &[u8]) {
+fn run_lines(rt: &impl Print, text: &[u8]) -> io::Result<()> {
     for k in 0..14 {
-        run_line(field(text, b'\n', k));
+        run_line(rt, field(text, b'\n', k))?;
     }
+    Ok(())
 }
 
-fn main() {
-    run_vertices();
-    run_links();
-    let mut text = [0u8; 1024];
-    let read = io::read_full(STDIN_FILENO, &mut text);
-    run_lines(&text[..read]);
+fn main(rt: HostRuntime) -> io::Result<()> {
+    run_vertices(&rt)?;
+    run_links(&rt)?;
+    let text = input(&rt, 1024)?;
+    run_lines(&rt, text.as_slice())
 }

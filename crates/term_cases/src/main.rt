@@ -3,37 +3,45 @@
 #![tactic(auto)]
 
 use cases::print::{number, text};
-use cases::read::{field, numbers, value};
+use cases::read::{field, input, numbers, value};
 use first_day::Dated;
-use libc::STDIN_FILENO;
+use std::io;
 
-fn print_answer(name: &[u8], answer: Dated) {
+fn print_answer(rt: &impl Print, name: &[u8], answer: Dated) -> io::Result<()> {
     match answer {
         Dated::Day(day, size) => {
-            text(name);
-            text(b" day");
-            number(day as usize);
-            cases::print::end_size(size);
+            text(rt, name)?;
+            text(rt, b" day")?;
+            number(rt, day as usize)?;
+            cases::print::end_size(rt, size)
         }
         Dated::Never(size) => {
-            text(name);
-            text(b" never");
-            cases::print::end_size(size);
+            text(rt, name)?;
+            text(rt, b" never")?;
+            cases::print::end_size(rt, size)
         }
-        Dated::Refused(refusal) => cases::print::refusal(name, b"", refusal),
+        Dated::Refused(refusal) => cases::print::refusal(rt, name, b"", refusal),
     }
 }
 
-fn run(line: &[u8], starts: &[u16], links: &[u16], vertices: &[u16], firsts: &[u16], ends: &[u16]) {
+fn run(
+    rt: &impl Print,
+    line: &[u8],
+    starts: &[u16],
+    links: &[u16],
+    vertices: &[u16],
+    firsts: &[u16],
+    ends: &[u16],
+) -> io::Result<()> {
     let from = value(field(line, b':', 6));
     let until = value(field(line, b':', 7));
     let x = value(field(line, b':', 8)) as usize;
     let k = value(field(line, b':', 9));
     let answer = first_day::first_day(starts, links, vertices, firsts, ends, from, until, x, k);
-    print_answer(field(line, b':', 0), answer);
+    print_answer(rt, field(line, b':', 0), answer)
 }
 
-fn run_line(line: &[u8]) {
+fn run_line(rt: &impl Print, line: &[u8]) -> io::Result<()> {
     let mut starts = [0u16; 5];
     let mut links = [0u16; 12];
     let mut vertices = [0u16; 4];
@@ -45,23 +53,24 @@ fn run_line(line: &[u8]) {
     let f = numbers(field(line, b':', 4), &mut firsts);
     let e = numbers(field(line, b':', 5), &mut ends);
     run(
+        rt,
         line,
         &starts[..s],
         &links[..l],
         &vertices[..v],
         &firsts[..f],
         &ends[..e],
-    );
+    )
 }
 
-fn run_lines(lines: &[u8]) {
+fn run_lines(rt: &impl Print, lines: &[u8]) -> io::Result<()> {
     for k in 0..29 {
-        run_line(field(lines, b'\n', k));
+        run_line(rt, field(lines, b'\n', k))?;
     }
+    Ok(())
 }
 
-fn main() {
-    let mut lines = [0u8; 4096];
-    let read = io::read_full(STDIN_FILENO, &mut lines);
-    run_lines(&lines[..read]);
+fn main(rt: HostRuntime) -> io::Result<()> {
+    let lines = input(&rt, 4096)?;
+    run_lines(&rt, lines.as_slice())
 }

@@ -10,26 +10,26 @@ use Rattle.collapse.proofs.write_falls.Tie as tie
 abbrev entry : tie.After-cascade → tie.Start
 entry c = c.before.before.before.before.before.before.before
 
-abbrev cascaded : tie.After-slice-known2 → tie.After-cascade
+abbrev cascaded : tie.After-slice_known-2-1 → tie.After-cascade
 cascaded c = c.before.before.before.before.before
 
 cascade-requires : tie.Need-cascade-requires
-cascade-requires c κs = let pre = c.before.before.before.before.before.before.requires in (pre.0, pre.1.0)
+cascade-requires c κs = let pre = c.requires in (pre.0, pre.1.0)
 
-copy-falls-requires : tie.Need-copy-falls-requires
+copy-falls-requires : tie.Need-copy_falls-requires
 copy-falls-requires c κs =
     let pre = (entry c.before.before).requires in
     omega (arith, pre.0.long, pre.0.admitted.table.small, pre.1.1)
 
-same_length : tie.Need-same-length
-same_length c = c.before.before.copy_falls.auto.1.1.0
+same_length : tie.Need-shape_of-marks
+same_length c = c.copy_falls.auto.marks
 
 returns : tie.Need-returns
 returns c =
     let at = cascaded c in
     let args = (entry at).args in
-    let support = at.cascade.last.1.1.1.1.1.0 in
-    c.before.before.copy_falls.ensures ∙ ap (tabulate (fell_by args.levels.now support)) (entry at).pre.1.1 ∙ tabulate_cong _ _ _ at.cascade.ensures.0
+    let support = at.cascade.new.support in
+    c.copy_falls.ensures ∙ ap (tabulate (fell_by args.levels.now support)) (entry at).requires.1.1 ∙ tabulate_cong _ _ _ at.cascade.ensures.0
 
-pub write-falls-spec : {M : Type 1} → statement M
-write-falls-spec = tie.close (tie.spec cascade-requires copy-falls-requires same_length returns)
+pub write_falls_spec : {M : Type 1} → statement M
+write_falls_spec = tie.close (tie.spec cascade-requires copy-falls-requires same_length returns)

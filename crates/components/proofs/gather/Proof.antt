@@ -12,69 +12,67 @@ use borrow.Author.Rules.{rules}
 abbrev at : List ℕ → ℕ → ℕ
 at xs v = get_or xs v 0
 
-abbrev invariant-loop : tie.invariant-loop
-invariant-loop count numbers value out₀ i₀ out i = (i ≤ count) × (length out ≡ length out₀) × (out ≡ map (at value) (take i numbers) ++ drop i out₀)
+abbrev invariant-loop-i : tie.invariant-loop-i
+invariant-loop-i count numbers value out₀ i₀ out i = (i ≤ count) × (length out ≡ length out₀) × (out ≡ map (at value) (take i numbers) ++ drop i out₀)
 
-abbrev decreases-loop : tie.decreases-loop
-decreases-loop count numbers value out₀ i₀ out i = count - i
+abbrev decreases-loop-i : tie.decreases-loop-i
+decreases-loop-i count numbers value out₀ i₀ out i = count - i
 
-loop-holds : tie.Need-loop-init invariant-loop decreases-loop
+loop-holds : tie.Need-loop-i-init invariant-loop-i decreases-loop-i
 loop-holds c = (omega arith, refl, refl)
 
-mul-out : tie.Need-overflow-mul-out invariant-loop decreases-loop
+mul-out : tie.Need-offset_bounds-numbers-i invariant-loop-i decreases-loop-i
 mul-out c = search rules
 
-shared-slice-read-out : tie.Need-shared-slice-read-out invariant-loop decreases-loop
+shared-slice-read-out : tie.Need-bounds-numbers-i invariant-loop-i decreases-loop-i
 shared-slice-read-out c = search rules
 
-cast-out : tie.Need-overflow-cast-out invariant-loop decreases-loop
-cast-out c = omega (arith, c.shared-slice-known.given c.before.before.loop.i)
+cast-out : tie.Need-overflow_cast-out invariant-loop-i decreases-loop-i
+cast-out c = omega (arith, c.shared_slice_known-1.given c.loop-i.i)
 
-mul-out-2 : tie.Need-overflow-mul-out-2 invariant-loop decreases-loop
-mul-out-2 c = let head = c.before.before in omega (arith, head.before.requires.1 head.loop.i c.before.loop-test.true)
+mul-out-2 : tie.Need-offset_bounds-value-numbers invariant-loop-i decreases-loop-i
+mul-out-2 c = omega (arith, c.requires.1 c.loop-i.i c.loop-i-test.true)
 
-element-copy-out-out : tie.Need-element-copy-out-out invariant-loop decreases-loop
-element-copy-out-out c = let head = c.before.before in omega (arith, head.before.requires.1 head.loop.i c.before.loop-test.true)
+element-copy-out-out : tie.Need-bounds-value-numbers invariant-loop-i decreases-loop-i
+element-copy-out-out c = omega (arith, c.requires.1 c.loop-i.i c.loop-i-test.true)
 
-mul-out-3 : tie.Need-overflow-mul-out-3 invariant-loop decreases-loop
+mul-out-3 : tie.Need-offset_bounds-out-i invariant-loop-i decreases-loop-i
 mul-out-3 c = search rules
 
-slice-write-out : tie.Need-slice-write-out invariant-loop decreases-loop
+slice-write-out : tie.Need-bounds-out-i invariant-loop-i decreases-loop-i
 slice-write-out c = search rules
 
-add-i : tie.Need-overflow-add-i invariant-loop decreases-loop
+add-i : tie.Need-overflow_add-i invariant-loop-i decreases-loop-i
 add-i c = search rules
 
-loop-less : tie.Need-loop-smaller invariant-loop decreases-loop
+loop-less : tie.Need-loop-i-smaller invariant-loop-i decreases-loop-i
 loop-less c = search rules
 
-loop-again : tie.Need-loop-preserved invariant-loop decreases-loop
+loop-again : tie.Need-loop-i-preserved invariant-loop-i decreases-loop-i
 loop-again c =
-    let head = c.before.before.before in
-    let pre = head.before.requires.0 in
-    let out₀ = head.before.args.out.now in
-    let numbers = head.before.args.numbers.now in (
+    let pre = c.requires.0 in
+    let out₀ = c.args.out.now in
+    let numbers = c.args.numbers.now in (
       omega arith,
-      simp length-set head.loop.invariant.1,
-      gather_more (at head.before.args.value.now) numbers out₀ head.loop.out head.loop.i (omega arith) (omega arith) head.loop.invariant.2,
+      simp length-set c.loop-i.invariant.1,
+      gather_more (at c.args.value.now) numbers out₀ c.loop-i.out c.loop-i.i (omega arith) (omega arith) c.loop-i.invariant.2,
     )
 
-same_length : tie.Need-same-length invariant-loop decreases-loop
-same_length c = c.before.loop.invariant.1
+same_length : tie.Need-shape_of-out invariant-loop-i decreases-loop-i
+same_length c = c.loop-i.invariant.1
 
-returns : tie.Need-returns invariant-loop decreases-loop
+returns : tie.Need-returns invariant-loop-i decreases-loop-i
 returns c =
-    let head = c.before in
-    let numbers = head.before.args.numbers.now in
-    let done : head.loop.i ≡ head.before.args.count = omega arith in
-    (rw done at head.loop.invariant.2) ∙ gather_all (at head.before.args.value.now) numbers head.before.args.out.now head.before.args.count head.before.requires.0.0
+    let numbers = c.args.numbers.now in
+    let done : c.loop-i.i ≡ c.args.count = omega arith in
+    (rw done at c.loop-i.invariant.2) ∙ gather_all (at c.args.value.now) numbers c.args.out.now c.args.count c.requires.0.0
 
-pub gather-spec : {M : Type 1} → statement M
-gather-spec =
+pub gather_spec : {M : Type 1} → statement M
+gather_spec =
     tie.close
     (tie.spec
-    invariant-loop
-    decreases-loop
+    invariant-loop-i
+    decreases-loop-i
     loop-holds
     mul-out
     shared-slice-read-out

@@ -12,48 +12,47 @@ use Rattle.components.proofs.write_list.Tie as tie
 abbrev entry : tie.After-fill → tie.Start
 entry c = c.before.before.before.before.before.before.before.before.before.before
 
-abbrev filled : tie.After-count-members → tie.After-fill
+abbrev filled : tie.After-count_members → tie.After-fill
 filled c = c.before.before.before
 
-abbrev counted : tie.After-list → tie.After-count-members
+abbrev counted : tie.After-list → tie.After-count_members
 counted c = c.before.before.before.before.before.before.before
 
-abbrev called : tie.After-slice-known6 → tie.After-list
+abbrev called : tie.After-slice_known-6-1 → tie.After-list
 called c = c.before.before.before.before.before.before
 
 small : (c : tie.After-fill) → vertices (entry c).args.starts.now ≤ 1024
 small c = (entry c).requires.0.table.small
 
 -- the arrays list the defined components
-lists : (c : tie.After-count-members) → let args = (entry (filled c)).args in
-    Defined (graph_of args.starts.now args.links.now) (anchored_by args.anchored.now) (filled c).fill.new.1.1.1.0 (filled c).fill.new.1.1.1.1.1.0 c.count-members.new.1.1.0
+lists : (c : tie.After-count_members) → let args = (entry (filled c)).args in
+    Defined (graph_of args.starts.now args.links.now) (anchored_by args.anchored.now) (filled c).fill.new.level (filled c).fill.new.component c.count_members.new.size
 lists c =
     let holds = (filled c).fill.ensures in
-    defined _ (simple (entry (filled c)).requires.0.table) _ (small (filled c)) _ _ _ holds.0 holds.1.1 c.count-members.ensures
+    defined _ (simple (entry (filled c)).requires.0.table) _ (small (filled c)) _ _ _ holds.0 holds.1.1 c.count_members.ensures
 
-sub-n : tie.Need-overflow-sub-n
-sub-n c = c.before.before.before.before.before.before.requires.0.table.framed.some
+sub-n : tie.Need-overflow_sub-n
+sub-n c = c.requires.0.table.framed.some
 
 fill-requires : tie.Need-fill-requires
-fill-requires c κs = c.before.before.before.before.before.before.before.before.before.requires.0
+fill-requires c κs = c.requires.0
 
-count-members-requires : tie.Need-count-members-requires
+count-members-requires : tie.Need-count_members-requires
 count-members-requires c κs = small c.before.before
 
 list-requires : tie.Need-list-requires
 list-requires c κs =
-    let at = c.before.before.before.before.before.before in
-    let D = lists at in
-    (small (filled at), (D.low, ((entry (filled at)).requires.1, D.few)))
+    let D = lists c.before.before.before.before.before.before in
+    (small (filled c.before.before.before.before.before.before), (D.low, ((entry (filled c.before.before.before.before.before.before)).requires.1, D.few)))
 
-same_length : tie.Need-same-length
-same_length c = (called c).list.auto.1.1.1.1.0
+same_length : tie.Need-shape_of-levels
+same_length c = (called c).list.auto.levels
 
-same-length-2 : tie.Need-same-length-2
-same-length-2 c = (called c).list.auto.1.1.1.1.1.0
+same-length-2 : tie.Need-shape_of-sizes
+same-length-2 c = (called c).list.auto.sizes
 
-same-length-3 : tie.Need-same-length-3
-same-length-3 c = (called c).list.auto.1.1.1.1.1.1.0
+same-length-3 : tie.Need-shape_of-numbers
+same-length-3 c = (called c).list.auto.numbers
 
 returns : tie.Need-returns
 returns c =
@@ -67,8 +66,8 @@ returns c =
       ),
     )
 
-pub write-list-spec : {M : Type 1} → statement M
-write-list-spec =
+pub write_list_spec : {M : Type 1} → statement M
+write_list_spec =
     tie.close
     (tie.spec
     sub-n

@@ -4,13 +4,13 @@ use Rattle.first_day.specs.Answers.{day_of}
 use Rattle.first_day.proofs.tell.Statement.{statement}
 use Rattle.first_day.proofs.tell.Tie as tie
 
-returns : tie.Need-returns
+returns : tie.Need-returns-then-day-until
 unfolding day_of
-returns c = rw (lt-ltb _ _ c.if1.true)
+returns c = rw (lt-ltb _ _ c.if-day-until.true)
 
-returns-2 : tie.Need-returns-2
+returns-2 : tie.Need-returns
 unfolding day_of
-returns-2 c = rw (le-ltb _ _ c.if1.false)
+returns-2 c = rw (le-ltb _ _ c.if-day-until.false)
 
-pub tell-spec : {M : Type 1} → statement M
-tell-spec = tie.close (tie.spec returns returns-2)
+pub tell_spec : {M : Type 1} → statement M
+tell_spec = tie.close (tie.spec returns returns-2)

@@ -9,33 +9,33 @@ use borrow.Author.Rules.{rules}
 use Rattle.first_day.proofs.test_terms.Statement.{statement}
 use Rattle.first_day.proofs.test_terms.Tie as tie
 
-told : (c : tie.After-enum-told) → let args = c.before.before.before.before.before.before.before.before.args in check_of args.starts.now args.links.now ≡ Passed
-told c = sym c.before.before.test_table.ensures ∙ c.enum_told.given.1
+told : (c : tie.In-Passed) → let args = c.args in check_of args.starts.now args.links.now ≡ Passed
+told c = sym c.test_table-checked.ensures ∙ c.in-Passed.is
 
-test-table-requires : tie.Need-test-table-requires
+test-table-requires : tie.Need-test_table-checked-requires
 test-table-requires c κs = search rules
 
-enum-known-checked : tie.Need-enum-known-checked
+enum-known-checked : tie.Need-enum_known-checked
 enum-known-checked c = search rules
 
-enum_told : tie.Need-enum-told
+enum_told : tie.Need-enum_told-1
 enum_told c = search rules
 
-sub-test-lists : tie.Need-overflow-sub-test-lists
+sub-test-lists : tie.Need-overflow_sub-starts
 sub-test-lists c = (sound _ _ (told c)).framed.some
 
-test-lists-requires : tie.Need-test-lists-requires
+test-lists-requires : tie.Need-test_lists-requires
 test-lists-requires c κs = search rules
 
-returns : tie.Need-returns
+returns : tie.Need-returns-in-Refused
 unfolding first_day_of
-returns c = sym (handed _ _ (sym c.before.before.before.test_table.ensures ∙ c.before.checked.given.1))
+returns c = sym (handed _ _ (sym c.test_table-checked.ensures ∙ c.in-Refused.is))
 
-returns-2 : tie.Need-returns-2
+returns-2 : tie.Need-returns-in-Passed
 unfolding first_day_of
-returns-2 c = c.test-lists.ensures ∙ sym (cleared _ _ (told c.before))
+returns-2 c = c.test_lists.ensures ∙ sym (cleared _ _ (told c.before))
 
-pub test-terms-spec : {M : Type 1} → statement M
-test-terms-spec =
+pub test_terms_spec : {M : Type 1} → statement M
+test_terms_spec =
     tie.close
     (tie.spec test-table-requires enum-known-checked enum_told sub-test-lists test-lists-requires returns returns-2)

@@ -11,66 +11,65 @@ use borrow.Author.Rules.{rules}
 use Rattle.terms.proofs.set_anchors.Statement.{statement}
 use Rattle.terms.proofs.set_anchors.Tie as tie
 
-abbrev invariant-loop : tie.invariant-loop
-invariant-loop vertices firsts ends day bytes₀ i₀ bytes i = (i ≤ length vertices) × Shows (terms vertices firsts ends) day bytes i
+abbrev invariant-loop-i : tie.invariant-loop-i
+invariant-loop-i vertices firsts ends day bytes₀ i₀ bytes i = (i ≤ length vertices) × Shows (terms vertices firsts ends) day bytes i
 
-abbrev decreases-loop : tie.decreases-loop
-decreases-loop vertices firsts ends day bytes₀ i₀ bytes i = length vertices - i
+abbrev decreases-loop-i : tie.decreases-loop-i
+decreases-loop-i vertices firsts ends day bytes₀ i₀ bytes i = length vertices - i
 
 -- the term's vertex has a place
-small : (c : tie.In-loop invariant-loop decreases-loop) → get_or c.before.before.before.before.before.args.vertices.now c.before.loop.i 0 < 1024
-small c = c.before.before.before.before.before.requires.0.within c.before.loop.i c.loop-test.true
+small : (c : tie.In-loop-i invariant-loop-i decreases-loop-i) → get_or c.args.vertices.now c.loop-i.i 0 < 1024
+small c = c.requires.0.within c.loop-i.i c.loop-i-test.true
 
-loop-holds : tie.Need-loop-init invariant-loop decreases-loop
-loop-holds c = (omega arith, c.before.before.before.requires.1)
+loop-holds : tie.Need-loop-i-init invariant-loop-i decreases-loop-i
+loop-holds c = (omega arith, c.requires.1)
 
-runs-requires : tie.Need-runs-requires invariant-loop decreases-loop
+runs-requires : tie.Need-runs-requires invariant-loop-i decreases-loop-i
 runs-requires c κs =
-    let paired = c.before.before.before.before.before.requires.0 in
-    omega (arith, c.loop-test.true, paired.firsts, paired.ends)
+    let paired = c.requires.0 in
+    omega (arith, c.loop-i-test.true, paired.firsts, paired.ends)
 
-mul-bytes : tie.Need-overflow-mul-bytes invariant-loop decreases-loop
+mul-bytes : tie.Need-offset_bounds-vertices-i invariant-loop-i decreases-loop-i
 mul-bytes c = search rules
 
-shared-slice-read-bytes : tie.Need-shared-slice-read-bytes invariant-loop decreases-loop
+shared-slice-read-bytes : tie.Need-bounds-vertices-i invariant-loop-i decreases-loop-i
 shared-slice-read-bytes c = search rules
 
-cast-bytes : tie.Need-overflow-cast-bytes invariant-loop decreases-loop
+cast-bytes : tie.Need-overflow_cast-bytes invariant-loop-i decreases-loop-i
 cast-bytes c = omega (arith, small c.before.before.before)
 
-element-write-bytes : tie.Need-element-write-bytes invariant-loop decreases-loop
-element-write-bytes c = small c.before.before.before
+element-write-bytes : tie.Need-bounds-bytes-vertices invariant-loop-i decreases-loop-i
+element-write-bytes c = small c.before.before.before.before
 
-add-i : tie.Need-overflow-add-i invariant-loop decreases-loop
+add-i : tie.Need-overflow_add-i invariant-loop-i decreases-loop-i
 add-i c = search rules
 
-loop-less : tie.Need-loop-smaller invariant-loop decreases-loop
+loop-less : tie.Need-loop-i-smaller invariant-loop-i decreases-loop-i
 loop-less c = search rules
 
-loop-again : tie.Need-loop-preserved invariant-loop decreases-loop
+loop-again : tie.Need-loop-i-preserved invariant-loop-i decreases-loop-i
 loop-again c =
-    let in-loop = c.before.before in
-    let at = in-loop.before.loop in
-    let args = in-loop.before.before.before.before.before.args in
-    let e = c.before.runs.ensures in
+    let at = c.loop-i in
+    let args = c.args in
+    let e = c.runs.ensures in
     ⊎_elim
-    (λ d. rw d.2 (omega (arith, in-loop.loop-test.true), shows_yes (terms args.vertices.now args.firsts.now args.ends.now) args.day at.bytes at.i at.invariant.1 (small in-loop) (sym e ∙ d.0.taken)))
-    (λ d. rw d.1 (omega (arith, in-loop.loop-test.true), shows_no (terms args.vertices.now args.firsts.now args.ends.now) args.day at.bytes at.i at.invariant.1 (sym e ∙ d.0.left)))
-    c.if1.branch
+    (λ d. rw d.bytes-is (omega (arith, c.loop-i-test.true), shows_yes (terms args.vertices.now args.firsts.now args.ends.now) args.day at.bytes at.i at.invariant.1 (small c.before.before) (sym e ∙ d.if-runs.true)))
+    (λ d. rw d.bytes-is (omega (arith, c.loop-i-test.true), shows_no (terms args.vertices.now args.firsts.now args.ends.now) args.day at.bytes at.i at.invariant.1 (sym e ∙ d.if-runs.false)))
+    c.if-runs.branch-raw
 
-returns : tie.Need-returns invariant-loop decreases-loop
+returns : tie.Need-returns invariant-loop-i decreases-loop-i
 returns c =
-    let at = c.before.loop in
-    let args = c.before.before.before.before.before.args in
-    let e : at.i ≡ length args.vertices.now = omega (arith, at.invariant.0, c.loop-test.false) in
+    let at = c.loop-i in
+    let args = c.args in
+    let e : at.i ≡ length args.vertices.now = omega (arith, at.invariant.0, c.loop-i-test.false) in
     subst (Shows (terms args.vertices.now args.firsts.now args.ends.now) args.day at.bytes) e at.invariant.1
 
-pub set-anchors-spec : {M : Type 1} → statement M
-set-anchors-spec =
+pub set_anchors_spec : {M : Type 1} → statement M
+set_anchors_spec =
     tie.close
     (tie.spec
-    invariant-loop
-    decreases-loop
+    invariant-loop-i
+    decreases-loop-i
     loop-holds
     runs-requires
     mul-bytes

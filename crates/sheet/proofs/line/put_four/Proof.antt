@@ -17,82 +17,81 @@ four-stored : (out : List ℕ) (at a b c d : ℕ) {text : List ℕ} → text ≡
 four-stored out at a b c d e = rw e (simp towards_suc)
 
 -- the digits written
-digits : (c : tie.After-take-units4) → four_digits c.before.before.before.before.before.args.v
-    ≡ (48 + c.before.before.take-units2.result.count) ∷ (48 + c.before.take-units3.result.count) ∷ (48 + c.take-units4.result.count) ∷ (48 + c.take-units4.result.rest) ∷ []
+digits : (c : tie.After-take_units-tens) → four_digits c.args.v
+    ≡ (48 + c.take_units-thousands.result.count) ∷ (48 + c.take_units-hundreds.result.count) ∷ (48 + c.take_units-tens.result.count) ∷ (48 + c.take_units-tens.result.rest) ∷ []
 digits c =
-    four_parted c.before.before.before.take-units.ensures c.before.before.take-units2.ensures c.before.take-units3.ensures c.take-units4.ensures
+    four_parted c.take_units-beyond.ensures c.take_units-thousands.ensures c.take_units-hundreds.ensures c.take_units-tens.ensures
 
-take-units-requires : tie.Need-take-units-requires
+take-units-requires : tie.Need-take_units-beyond-requires
 take-units-requires c κs = search rules
 
-take-units-requires-2 : tie.Need-take-units-requires-2
+take-units-requires-2 : tie.Need-take_units-thousands-requires
 take-units-requires-2 c κs = search rules
 
-take-units-requires-3 : tie.Need-take-units-requires-3
+take-units-requires-3 : tie.Need-take_units-hundreds-requires
 take-units-requires-3 c κs = search rules
 
-take-units-requires-4 : tie.Need-take-units-requires-4
+take-units-requires-4 : tie.Need-take_units-tens-requires
 take-units-requires-4 c κs = search rules
 
-cast-out : tie.Need-overflow-cast-out
+cast-out : tie.Need-overflow_cast-out
 cast-out c = search rules
 
-add-out : tie.Need-overflow-add-out
+add-out : tie.Need-overflow_add-out
 add-out c = search rules
 
-slice-write-out : tie.Need-slice-write-out
+slice-write-out : tie.Need-bounds-out-at
 slice-write-out c = search rules
 
-cast-out-2 : tie.Need-overflow-cast-out-2
+cast-out-2 : tie.Need-overflow_cast-out-2
 cast-out-2 c = search rules
 
-add-out-2 : tie.Need-overflow-add-out-2
+add-out-2 : tie.Need-overflow_add-out-2
 add-out-2 c = search rules
 
-add-out-3 : tie.Need-overflow-add-out-3
+add-out-3 : tie.Need-overflow_add-out-3
 add-out-3 c = search rules
 
-slice-write-out-2 : tie.Need-slice-write-out-2
+slice-write-out-2 : tie.Need-bounds-out-at-2
 slice-write-out-2 c = simp length-set (omega arith)
 
-cast-out-3 : tie.Need-overflow-cast-out-3
+cast-out-3 : tie.Need-overflow_cast-out-3
 cast-out-3 c = search rules
 
-add-out-4 : tie.Need-overflow-add-out-4
+add-out-4 : tie.Need-overflow_add-out-4
 add-out-4 c = search rules
 
-add-out-5 : tie.Need-overflow-add-out-5
+add-out-5 : tie.Need-overflow_add-out-5
 add-out-5 c = search rules
 
-slice-write-out-3 : tie.Need-slice-write-out-3
+slice-write-out-3 : tie.Need-bounds-out-at-3
 slice-write-out-3 c = simp length-set (omega arith)
 
-cast-out-4 : tie.Need-overflow-cast-out-4
+cast-out-4 : tie.Need-overflow_cast-out-4
 cast-out-4 c = search rules
 
-add-out-6 : tie.Need-overflow-add-out-6
+add-out-6 : tie.Need-overflow_add-out-6
 add-out-6 c = search rules
 
-add-out-7 : tie.Need-overflow-add-out-7
+add-out-7 : tie.Need-overflow_add-out-7
 add-out-7 c = search rules
 
-slice-write-out-4 : tie.Need-slice-write-out-4
+slice-write-out-4 : tie.Need-bounds-out-at-4
 slice-write-out-4 c = simp length-set (omega arith)
 
-add-result : tie.Need-overflow-add-result
+add-result : tie.Need-overflow_add-result
 add-result c = search rules
 
-same_length : tie.Need-same-length
+same_length : tie.Need-shape_of-out
 same_length c = search rules
 
 returns : tie.Need-returns
 returns c =
-    let taken = c.before.before.before.before in
-    let args = taken.before.before.before.before.before.args in
-    record { stored = four-stored args.out.now args.at _ _ _ _ (digits taken); ends = refl }
+    let args = c.args in
+    record { stored = four-stored args.out.now args.at _ _ _ _ (digits c.before.before.before.before); ends = refl }
 
-pub put-four-spec : {M : Type 1} → statement M
-put-four-spec =
+pub put_four_spec : {M : Type 1} → statement M
+put_four_spec =
     tie.close
     (tie.spec
     take-units-requires

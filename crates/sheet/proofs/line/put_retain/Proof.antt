@@ -6,41 +6,29 @@ use Rattle.sheet.proofs.Lines.{name_length}
 use Rattle.sheet.proofs.line.put_retain.Statement.{statement}
 use Rattle.sheet.proofs.line.put_retain.Tie as tie
 
-slice-aggregate-put-text : tie.Need-slice-aggregate-put-text
-slice-aggregate-put-text c = search rules
-
-put-text-requires : tie.Need-put-text-requires
+put-text-requires : tie.Need-put_text-name_at-requires
 put-text-requires c κs = search rules
 
-put-chosen-requires : tie.Need-put-chosen-requires
+put-chosen-requires : tie.Need-put_chosen-end-requires
 put-chosen-requires c κs = search rules
 
-slice-aggregate-put-text-2 : tie.Need-slice-aggregate-put-text-2
-slice-aggregate-put-text-2 c = search rules
-
-put-text-requires-2 : tie.Need-put-text-requires-2
+put-text-requires-2 : tie.Need-put_text-requires
 put-text-requires-2 c κs =
-    let start = c.before.before.before.before.before.before.before.before.before.before.before.before in
-    omega (arith, name_length start.args.chosen)
+    omega (arith, name_length c.args.chosen)
 
-same_length : tie.Need-same-length
+same_length : tie.Need-shape_of-out
 same_length c = search rules
 
 returns : tie.Need-returns
 returns c =
-    let third = c.before.before in
-    let second = third.before.before.before.before.before in
-    let first = second.before.before.before.before in
-    written_then (written_then first.put-text.ensures second.put-chosen.ensures) third.put-text2.ensures
+    written_then (written_then c.put_text-name_at.ensures c.put_chosen-end.ensures) c.put_text.ensures
 
-pub put-retain-spec : {M : Type 1} → statement M
-put-retain-spec =
+pub put_retain_spec : {M : Type 1} → statement M
+put_retain_spec =
     tie.close
     (tie.spec
-    slice-aggregate-put-text
     put-text-requires
     put-chosen-requires
-    slice-aggregate-put-text-2
     put-text-requires-2
     same_length
     returns)
