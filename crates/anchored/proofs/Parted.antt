@@ -19,7 +19,7 @@ use Rattle.anchored.specs.Step.{undisturbed}
 use Rattle.anchored.specs.Changed.{Tells}
 use Rattle.anchored.specs.Events.{Event, adds, Editable, edge_graph}
 use Rattle.anchored.proofs.Edge.{edited-first, edited-second, edited-other}
-use Rattle.anchored.proofs.Step.{free-before, free-after, together-stays, inside-stays}
+use Rattle.anchored.proofs.Step.{free_before, free_after, together-stays, inside-stays}
 use Rattle.anchored.proofs.Changed.{together-number, number-together}
 
 module _ (G : Graph) (L : Simple G) (a b : ℕ) (ba : a < G.size) (bb : b < G.size) where
@@ -82,8 +82,8 @@ module _ (G H : Graph) (L : Simple G) (M : Simple H) (sz : G.size ≡ H.size) (f
       let bb = edge.second in
       let stays = together-stays G H L M sz A B f bf c in
       let both : T (together G A f b) = or-e (eqb (component G A a) (component G A b)) _ (and_r (eqb a a) _ i)
-      (λ q. number-together G L few A f b bf (free-before G H L M sz A B f bf c) (sym (together-number G A f a t ∙ eqb→eq (component G A a) (component G A b) q)))
-      (λ q. subst T (sym (stays b bb)) (number-together H M (omega arith) B f b (omega arith) (free-after G H L M sz A B f bf c)
+      (λ q. number-together G L few A f b bf (free_before G H L M sz A B f bf c) (sym (together-number G A f a t ∙ eqb→eq (component G A a) (component G A b) q)))
+      (λ q. subst T (sym (stays b bb)) (number-together H M (omega arith) B f b (omega arith) (free_after G H L M sz A B f bf c)
       (sym (together-number H B f a (subst T (stays a ba) t) ∙ eqb→eq (component H B a) (component H B b) q)))) in
       edge.parted (inside-stays G H L M sz A B f bf c a b ba bb t both)
 

@@ -61,11 +61,11 @@ module _ (G H : Graph) (L : Simple G) (M : Simple H) (sz : G.size ≡ H.size) (A
         all-below-e each G.size (and_r (not (A f) && not (B f) && eqb (level G A f) (level H B f)) _ c),
       )
 
-  pub free-before : T (not (A f))
-  free-before = undisturbed_parts.0
+  pub free_before : T (not (A f))
+  free_before = undisturbed_parts.0
 
-  pub free-after : T (not (B f))
-  free-after = undisturbed_parts.1
+  pub free_after : T (not (B f))
+  free_after = undisturbed_parts.1
 
   pub level-stays : level G A f ≡ level H B f
   level-stays = undisturbed_parts.2
@@ -91,14 +91,14 @@ module _ (G H : Graph) (L : Simple G) (M : Simple H) (sz : G.size ≡ H.size) (A
   undisturbed-alike =
       let b' : f < H.size = omega arith in
       let same-level : (w : ℕ) → w < G.size → T (together G A f w) → (level G A w ≡ level G A f) × (level H B w ≡ level G A f)
-      = λ w bw s. (together-level G L A f w b bw free-before s, together-level H M B f w b' (omega arith) free-after (subst T (together-stays w bw) s) ∙ sym level-stays) in
+      = λ w bw s. (together-level G L A f w b bw free_before s, together-level H M B f w b' (omega arith) free_after (subst T (together-stays w bw) s) ∙ sym level-stays) in
       record {
         free = λ w bw s. (and_l (not (A w)) _ s, and_l (not (B w)) _ (subst T (together-stays w bw) s));
         here = same-level;
-        closed = λ w p bw s i ap e. together-next G L A f w p b bw free-before s i ap e;
+        closed = λ w p bw s i ap e. together-next G L A f w p b bw free_before s i ap e;
         closed' = λ w p bw s i bp e.
             let bp' = M.range w p (omega arith) i in
-            subst T (sym (together-stays p (omega arith))) (together-next H M B f w p b' (omega arith) free-after (subst T (together-stays w bw) s) i bp (e ∙ level-stays));
+            subst T (sym (together-stays p (omega arith))) (together-next H M B f w p b' (omega arith) free_after (subst T (together-stays w bw) s) i bp (e ∙ level-stays));
         above = λ w bw s. let r = same-level w bw s in rw (r.0, r.1) at (above-stays w bw s);
         inside = λ w p bw s t. (
           λ i. member-e p (H.neighbors w) (subst T (inside-stays w p bw (L.range w p bw i) s t) (member_i p (G.neighbors w) i)),
@@ -171,14 +171,14 @@ module _ (G H : Graph) (L : Simple G) (M : Simple H) (sz : G.size ≡ H.size) (A
     there f b t =
         let q = steps_before f t in
         let C = undisturbed-alike G H L M sz A B f b q in
-        (level G A f, together G A f, C, sees_there (level G A f) (together G A f), joined-together G L A f f b (free-before G H L M sz A B f b q) (stay refl))
+        (level G A f, together G A f, C, sees_there (level G A f) (together G A f), joined-together G L A f f b (free_before G H L M sz A B f b q) (stay refl))
 
     back : Untouched H G B A u
     back f b t =
         let q = steps_after f t in
         let b' : f < G.size = omega arith in
         let C = undisturbed-alike G H L M sz A B f b' q in
-        (level G A f, together G A f, flip G H A B (level G A f) (together G A f) sz C, sees_back (level G A f) (together G A f), joined-together G L A f f b' (free-before G H L M sz A B f b' q) (stay refl))
+        (level G A f, together G A f, flip G H A B (level G A f) (together G A f) sz C, sees_back (level G A f) (together G A f), joined-together G L A f f b' (free_before G H L M sz A B f b' q) (stay refl))
 
     pub kept-follows : (v : ℕ) → v < G.size → follows G A u v ≡ follows H B u v
     kept-follows = reuse.follows_same G H L M sz A B u bu au au' there back

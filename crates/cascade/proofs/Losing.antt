@@ -100,8 +100,8 @@ module _ {s l a levels : List ℕ} (h : Leveled s l a levels) (x : ℕ) where
     falling_beside : (next : ℕ → ℕ → Bool) → ((w p : ℕ) → T (next w p) → In p (take end queue)) → ((w : ℕ) → w < vertices s → T (not (adding A x w)) → (In w (take end queue) → ⊥) → left out w ≡ left next w)
         → Falling s l a levels x out support queue end → Falling s l a levels x next support queue end
     falling_beside next f e k = record {
-      support-long = k.support-long;
-      fallen-long = k.fallen-long;
+      support_long = k.support_long;
+      fallen_long = k.fallen_long;
       room = k.room;
       distinct = k.distinct;
       self = k.self;
@@ -206,7 +206,7 @@ module _ {s l a levels : List ℕ} (h : Leveled s l a levels) (x : ℕ) where
 
         -- kept anew
         less-here : get_or less w 0 ≡ left next w
-        less-here = get_or-set_same support w (held - 1) 0 (omega (arith, k.support-long)) ∙ omega (arith, held-less)
+        less-here = get_or-set_same support w (held - 1) 0 (omega (arith, k.support_long)) ∙ omega (arith, held-less)
 
         less_other : (v : ℕ) → (v ≡ w → ⊥) → get_or less v 0 ≡ get_or support v 0
         less_other v f = get_or-set_other support w v (held - 1) 0 f
@@ -248,8 +248,8 @@ module _ {s l a levels : List ℕ} (h : Leveled s l a levels) (x : ℕ) where
         -- one to spare: w stays
         falling_weaken : (held ≡ get_or levels w 0 → ⊥) → Falling s l a levels x next less queue end
         falling_weaken ne = record {
-          support-long = omega (arith, k.support-long, length-set support w (held - 1));
-          fallen-long = k.fallen-long;
+          support_long = omega (arith, k.support_long, length-set support w (held - 1));
+          fallen_long = k.fallen_long;
           room = k.room;
           distinct = k.distinct;
           self = k.self;
@@ -272,7 +272,7 @@ module _ {s l a levels : List ℕ} (h : Leveled s l a levels) (x : ℕ) where
           place = omega (arith, length-take-le end queue k.room, distinct-other (take end queue) (vertices s) k.distinct (λ v j. (k.down v j).0) w b new)
 
           longer : take (end + 1) (set queue end w) ≡ take end queue ++ w ∷ []
-          longer = rw add-one (take-suc-set queue end w (omega (arith, place, k.fallen-long)))
+          longer = rw add-one (take-suc-set queue end w (omega (arith, place, k.fallen_long)))
 
           goes : T (fallen G A x w)
           goes = or_r (eqb x w) _ (struck-falls G L A x (next w) (λ p c m. (k.down p (next-within w p m)).1) w b free
@@ -280,9 +280,9 @@ module _ {s l a levels : List ℕ} (h : Leveled s l a levels) (x : ℕ) where
 
           falling-found : Falling s l a levels x next less (set queue end w) (end + 1)
           falling-found = record {
-            support-long = omega (arith, k.support-long, length-set support w (held - 1));
-            fallen-long = omega (arith, k.fallen-long, length-set queue end w);
-            room = omega (arith, place, k.fallen-long, length-set queue end w);
+            support_long = omega (arith, k.support_long, length-set support w (held - 1));
+            fallen_long = omega (arith, k.fallen_long, length-set queue end w);
+            room = omega (arith, place, k.fallen_long, length-set queue end w);
             distinct = rw longer (distinct_snoc (take end queue) w k.distinct new);
             self = rw longer ((in_append (take end queue) (w ∷ []) x).1 (inl k.self));
             down = rw longer (λ v j. ⊎_elim (k.down v) (⊎_elim (λ q. subst (λ z. (z < vertices s) × T (fallen G A x z)) (sym q) (b, goes)) (λ m. absurd m)) ((in_append (take end queue) (w ∷ []) v).0 j));

@@ -174,8 +174,8 @@ module _ {s l a levels : List ℕ} (h : Leveled s l a levels) (x : ℕ) where
       let one : take 1 queue ≡ x ∷ [] = take-suc-set (replicate m 0) 0 x (omega (arith, zeros)) in
       let filled : (w : ℕ) → w < vertices s → ◌≡◌ {A = ℕ} (get_or (replicate m 65535) w 0) 65535 = λ w b. get_or-replicate m w 65535 0 (omega arith) in
       record {
-        support-long = omega (arith, length-replicate {A = ℕ} m 65535);
-        fallen-long = omega (arith, length-set (replicate m 0) 0 x);
+        support_long = omega (arith, length-replicate {A = ℕ} m 65535);
+        fallen_long = omega (arith, length-set (replicate m 0) 0 x);
         room = omega (arith, length-set (replicate m 0) 0 x);
         distinct = rw one (λ i. i, tt);
         self = rw one (inl refl);

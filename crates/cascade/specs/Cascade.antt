@@ -52,8 +52,8 @@ withdrawn fallen head ws w p = member p (take head fallen) || (member w ws && eq
 -- the first `end` of `fallen` are x and those found to fall, each once, which do fall; for the others it is kept how many hold them beside the
 -- withdrawn. Only vertices to be searched are touched, and never x or an anchored one
 pub record Falling (s l a levels : List ℕ) (x : ℕ) (out : ℕ → ℕ → Bool) (support fallen : List ℕ) (end : ℕ) : Type 0 where
-  pub support-long : vertices s ≤ length support
-  pub fallen-long : vertices s ≤ length fallen
+  pub support_long : vertices s ≤ length support
+  pub fallen_long : vertices s ≤ length fallen
   pub room : end ≤ length fallen
   pub distinct : Distinct (take end fallen)
   pub self : In x (take end fallen)

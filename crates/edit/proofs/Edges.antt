@@ -66,7 +66,7 @@ module _ (edit : ℕ → List ℕ → List ℕ) {s l s₁ l₁ s₂ l₂ : List 
     H = edited edit G a b
 
     sizes : (vertices s₁ ≡ vertices s) × (vertices s₂ ≡ vertices s)
-    sizes = (omega (arith, one.starts-long), omega (arith, one.starts-long, two.starts-long))
+    sizes = (omega (arith, one.starts_long), omega (arith, one.starts_long, two.starts_long))
 
     -- the neighbors of b are the old ones between the two
     listed : (u : ℕ) → u < vertices s → neighbors s₂ l₂ u ≡ H.neighbors u
@@ -85,7 +85,7 @@ module _ (edit : ℕ → List ℕ → List ℕ) {s l s₁ l₁ s₂ l₂ : List 
     -- with an edit that keeps lists in order it stays a table
     edited-table : Tabled s l G → Simple H → T (ascending (edit b (neighbors s l a))) → T (ascending (edit a (neighbors s l b))) → Tabled s₂ l₂ H
     edited-table table L up down =
-        let full : length l₂ ≡ 16384 = two.links-long ∙ one.links-long ∙ table.places in record {
+        let full : length l₂ ≡ 16384 = two.links_long ∙ one.links_long ∙ table.places in record {
           padded = two.padded;
           sound = sound_of two.padded.framed (omega arith) edited-graph table.sound.small L (λ v h. edited-cases edit G a b v (λ list. T (ascending list))
               (λ e. subst (λ z. T (ascending (edit b (neighbors s l z)))) e up)
@@ -121,13 +121,13 @@ module _ {s l : List ℕ} (table : Tabled s l (graph_of s l)) {e : Event} (E : E
 
     pub second_put : {s₁ l₁ : List ℕ} → Relisted s l a (insert b (neighbors s l a)) s₁ l₁ → CanPut s₁ l₁ b a
     second_put {s₁} one =
-        let size : vertices s₁ ≡ vertices s = omega (arith, one.starts-long) in
+        let size : vertices s₁ ≡ vertices s = omega (arith, one.starts_long) in
         let end : last_start s₁ ≡ get_or s₁ (vertices s) 0 = ap (λ z. get_or s₁ z 0) size in (
           one.padded,
           (
             omega (arith, E.second),
             (
-              omega (arith, one.last, insert-length b (neighbors s l a), one.links-long, E.room t, link-count table, table.places),
+              omega (arith, one.last, insert-length b (neighbors s l a), one.links_long, E.room t, link-count table, table.places),
               λ i. E.apart t (S.symmetric b a E.second (subst (λ z. In a z) (one.others b E.second E.other) i)),
             ),
           ),
@@ -150,7 +150,7 @@ module _ {s l : List ℕ} (table : Tabled s l (graph_of s l)) {e : Event} (E : E
         let between = one.others b E.second E.other in (
           one.padded,
           (
-            omega (arith, one.starts-long, E.second),
+            omega (arith, one.starts_long, E.second),
             (
               subst (λ z. T (ascending z)) (sym between) (S.ascending b E.second),
               subst (λ z. In a z) (sym between) (S.symmetric a b E.first (E.there t)),
@@ -184,8 +184,8 @@ edited_tabled s l e table E = split (adds e)
     (λ t.
     let one = put_exists e.first e.second (first_put table E t) in
     let two = put_exists e.second e.first (second_put table E t one.2) in
-    (two.0, two.1, added table E t one.2 two.2, two.2.starts-long ∙ one.2.starts-long))
+    (two.0, two.1, added table E t one.2 two.2, two.2.starts_long ∙ one.2.starts_long))
     (λ t.
     let one = take_exists e.first e.second (first-take table E t) in
     let two = take_exists e.second e.first (second-take table E t one.2) in
-    (two.0, two.1, dropped table E t one.2 two.2, two.2.starts-long ∙ one.2.starts-long))
+    (two.0, two.1, dropped table E t one.2 two.2, two.2.starts_long ∙ one.2.starts_long))

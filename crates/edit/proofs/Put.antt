@@ -162,4 +162,4 @@ module _ {s l : List ℕ} (P : Padded s l) (v p w : ℕ) (hv : v < vertices s) (
       ∙ before-p (get_or s u 0 + i) (omega arith) (omega arith) ∙ sym (neighbor_at f u i hu (omega arith))))
 
   pub put_relisted : Relisted s l v new s⁺ l⁺
-  put_relisted = record { starts-long = long-s; links-long = long-l; padded = padded⁺; here = put_here; last = put_last; others = put_other }
+  put_relisted = record { starts_long = long-s; links_long = long-l; padded = padded⁺; here = put_here; last = put_last; others = put_other }

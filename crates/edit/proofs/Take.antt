@@ -157,4 +157,4 @@ module _ {s l : List ℕ} (P : Padded s l) (v p : ℕ) (hv : v < vertices s) (lo
       ∙ before-p (get_or s u 0 + i) (omega arith) (omega arith) ∙ sym (neighbor_at f u i hu (omega arith))))
 
   pub taken_relisted : Relisted s l v new s⁻ l⁻
-  taken_relisted = record { starts-long = long-s; links-long = long-l; padded = padded⁻; here = taken_here; last = taken_last; others = taken_other }
+  taken_relisted = record { starts_long = long-s; links_long = long-l; padded = padded⁻; here = taken_here; last = taken_last; others = taken_other }

@@ -62,8 +62,8 @@ place_of list w = first (λ i. leb w (get_or list i 0)) (length list)
 
 -- a padded table with another list for v and the same for every other vertex; the last start moved with the list's length
 pub record Relisted (s l : List ℕ) (v : ℕ) (list s' l' : List ℕ) : Type 0 where
-  pub starts-long : length s' ≡ length s
-  pub links-long : length l' ≡ length l
+  pub starts_long : length s' ≡ length s
+  pub links_long : length l' ≡ length l
   pub padded : Padded s' l'
   pub here : neighbors s' l' v ≡ list
   pub last : get_or s' (vertices s) 0 + length (neighbors s l v) ≡ last_start s + length list

@@ -84,7 +84,7 @@ module _ {s₀ l₀ s l : List ℕ} {kept : Record} (right : Right s₀ l₀ kep
       × (((e.first < vertices s) × (e.second < vertices s)) × ((vertices s ≤ length kept.followers) × ((vertices s ≤ length kept.reached) × (vertices s ≤ length kept.stamp))))
   renewable = (
     still_admitted,
-    ((omega (arith, ok.first, size), omega (arith, ok.second, size)), (omega (arith, right.counts-long, size), (omega (arith, right.reaches-long, size), omega (arith, right.stamps-long, size)))),
+    ((omega (arith, ok.first, size), omega (arith, ok.second, size)), (omega (arith, right.counts_long, size), (omega (arith, right.reaches_long, size), omega (arith, right.stamps_long, size)))),
   )
 
   -- the record was worked out for the graph before
@@ -131,11 +131,11 @@ module _ {s₀ l₀ s l : List ℕ} {kept : Record} (right : Right s₀ l₀ kep
       columns = subst (λ a. ColumnsOf (graph_of s l) (anchored_by a) next.columns) (sym W.bytes) W.columns;
       bares = W.bares;
       counts = subst (λ a. Holds next.followers (vertices s) (follower_count (graph_of s l) (anchored_by a))) (sym W.bytes) counts-after;
-      counts-long = omega (arith, rows.counts.long, right.counts-long, size);
+      counts_long = omega (arith, rows.counts.long, right.counts_long, size);
       reaches = subst (λ b. Holds next.reached (vertices s) (row_reached b (graph_of s l) (anchored_by next.anchored))) (sym W.reaching)
           (subst (λ a. Holds next.reached (vertices s) (row_reached kept.reaching (graph_of s l) (anchored_by a))) (sym W.bytes) reaches-after);
-      reaches-long = omega (arith, rows.reaches.long, right.reaches-long, size);
-      stamps-long = omega (arith, rows.stamps.long, right.stamps-long, size);
+      reaches_long = omega (arith, rows.reaches.long, right.reaches_long, size);
+      stamps_long = omega (arith, rows.stamps.long, right.stamps_long, size);
     }
 
     -- its bytes and stamps are those of the plain session's turn

@@ -37,9 +37,9 @@ use Rattle.houses.specs.Cases.{refusals}
 -- what a call that is not refused is handed
 pub record Housed (s l a house quotas : List ℕ) (room : ℕ) : Type 0 where
   pub admitted : Admitted s l a
-  pub bytes-long : length a ≡ vertices s
+  pub bytes_long : length a ≡ vertices s
   pub houses_long : length house ≡ vertices s
-  pub sum-small : quota_sum quotas ≤ 60
+  pub sum_small : quota_sum quotas ≤ 60
   pub some : 0 < length quotas
   pub few : length quotas ≤ 16
   pub within : (v : ℕ) → v < vertices s → get_or house v 0 < length quotas
@@ -70,9 +70,9 @@ module _ (s l a house quotas : List ℕ) (room : ℕ) (e : houses_of s l a house
           long = omega arith;
           bytes = λ v h. ltb-false 1 (get_or a v 0) (bytes.0 v (omega arith));
         };
-        bytes-long = bytes-n;
+        bytes_long = bytes-n;
         houses_long = houses-n;
-        sum-small = ltb-false 60 (quota_sum quotas) lines.0;
+        sum_small = ltb-false 60 (quota_sum quotas) lines.0;
         some = omega arith;
         few = ltb-false 16 houses (false_of (ltb 16 houses) number.1);
         within = λ v h. leb-false houses (get_or house v 0) (within.0 v (omega arith));

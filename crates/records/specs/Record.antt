@@ -25,10 +25,10 @@ pub record Right (s l : List ℕ) (kept : Record) : Type 0 where
   pub columns : ColumnsOf (graph_of s l) (anchored_by kept.anchored) kept.columns
   pub bares : Holds kept.bare (vertices s) (bare_level (graph_of s l))
   pub counts : Holds kept.followers (vertices s) (follower_count (graph_of s l) (anchored_by kept.anchored))
-  pub counts-long : vertices s ≤ length kept.followers
+  pub counts_long : vertices s ≤ length kept.followers
   pub reaches : Holds kept.reached (vertices s) (row_reached kept.reaching (graph_of s l) (anchored_by kept.anchored))
-  pub reaches-long : vertices s ≤ length kept.reached
-  pub stamps-long : vertices s ≤ length kept.stamp
+  pub reaches_long : vertices s ≤ length kept.reached
+  pub stamps_long : vertices s ≤ length kept.stamp
 
 -- the plain session that the anchored bytes and the stamps stand for
 abbrev pub plain_of : Record → Plain

@@ -154,13 +154,13 @@ module _ (s l given hs quotas : List ℕ) where
   -- the record and the turns are what the first i lines leave, and these are written
   pub record Playing (out₀ out : List ℕ) (kept : Record) (turns : TurnsHeld) (at i : ℕ) : Type 0 where
     pub keeps : Keeps s l kept (before i).session
-    pub turns-held : turns_by turns ≡ (before i).turns
+    pub turns_held : turns_by turns ≡ (before i).turns
     pub sheet : Written out₀ 0 (sheet_of (vertices s) (lines i)) out at
 
 pub playing_none : {s l given hs quotas out : List ℕ} {kept : Record} {turns : TurnsHeld} → Keeps s l kept (session_of s l given [] 0)
     → turns_by turns ≡ record { next = 0; left = quota_by quotas } → Playing s l given hs quotas out out kept turns 0 0
 unfolding after after_lines shared_rounds tabulate sheet_from
-playing_none keeps held = record { keeps = keeps; turns-held = held; sheet = record { stored = refl; ends = refl } }
+playing_none keeps held = record { keeps = keeps; turns_held = held; sheet = record { stored = refl; ends = refl } }
 
 module _ {s l given hs quotas out₀ out : List ℕ} {kept : Record} {turns : TurnsHeld} {at i : ℕ} (now : Playing s l given hs quotas out₀ out kept turns at i) where
   pub playing_length : length out ≡ length out₀
@@ -168,7 +168,7 @@ module _ {s l given hs quotas out₀ out : List ℕ} {kept : Record} {turns : Tu
 
   -- a house is next
   pub playing_next : 0 < length quotas → turns.next < length quotas
-  playing_next some = subst (λ t. t.next < length quotas) (sym now.turns-held)
+  playing_next some = subst (λ t. t.next < length quotas) (sym now.turns_held)
       (next-lt (graph_of s l) (many s l given hs quotas) (house_choice (graph_of s l) (many s l given hs quotas)) (quota_by quotas) (anchored_by given) some i)
 
   -- there is room for the next line
@@ -194,14 +194,14 @@ module _ {s l given hs quotas out₀ out : List ℕ} {kept : Record} {turns : Tu
       let S = before s l given hs quotas i in
       let more = after_more G H (quota_by quotas) (anchored_by given) i in
       let anchors = now.keeps.stands.anchors in
-      let name = name_same G H (sharing_by kept turns) S anchors now.turns-held in
+      let name = name_same G H (sharing_by kept turns) S anchors now.turns_held in
       record {
         keeps = record {
           right = keeps.right;
           stands = subst (λ P. Stands n next P.session) (sym more) (stands-turn s l now.keeps.stands (i + 1) (name_on G H S)
               (subst (λ x. Stands n next (turn G (i + 1) x (plain_of kept))) name keeps.stands));
         };
-        turns-held = held ∙ ap₂ (λ B t. after_turn (length quotas) (served H n B t) t) anchors now.turns-held ∙ ap (λ P. P.turns) (sym more);
+        turns_held = held ∙ ap₂ (λ B t. after_turn (length quotas) (served H n B t) t) anchors now.turns_held ∙ ap (λ P. P.turns) (sym more);
         sheet = written_as (ap (sheet_of n) (sym (shared_more G H (quota_by quotas) (anchored_by given) i)))
             (sheet_turn n (lines s l given hs quotas i) now.sheet (round_for G S.session (name_on G H S)) (omega (arith, shared_length G H (quota_by quotas) (anchored_by given) i))
             (written_as (ap (shown n (i + 1)) (round_same G (plain_of kept) S.session anchors (name_on G H (sharing_by kept turns)) ∙ ap (round_for G S.session) name)) line));

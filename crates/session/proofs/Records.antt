@@ -60,22 +60,22 @@ module _ {n : ℕ} {P : Pool} (stands : Standing n P) where
   pub pool-size : G.size ≡ n
   pool-size = ap (λ g. g.size) (sym stands.cut) ∙ stands.vertices
 
-  bytes-long : length bytes ≡ n
-  bytes-long = length-tabulate (λ v. bit (A v)) n
+  bytes_long : length bytes ≡ n
+  bytes_long = length-tabulate (λ v. bit (A v)) n
 
   -- a byte is 1 exactly for a vertex in the plain session's set
   pub set_is : anchored_by bytes ≡ A
   set_is = fun_ext (λ v. split (leb n v)
-      (λ h. let past = leb→le n v h in rw (get_or-eq_default bytes 0 {n = v} (omega (arith, bytes-long)), stands.beyond v past))
+      (λ h. let past = leb→le n v h in rw (get_or-eq_default bytes 0 {n = v} (omega (arith, bytes_long)), stands.beyond v past))
       (λ h. rw (tabulate-at (λ w. bit (A w)) n v (nleb→lt n v h)) (bit-one (A v))))
 
   -- table and bytes are admitted by every other operation
   pub bytes-admitted : admit_of starts links bytes ≡ Passed
   bytes-admitted =
       let same = stands.vertices in
-      admits starts links bytes stands.checked (bytes-long ∙ sym same) record {
+      admits starts links bytes stands.checked (bytes_long ∙ sym same) record {
         table = sound starts links stands.checked;
-        long = omega (arith, bytes-long);
+        long = omega (arith, bytes_long);
         bytes = λ v b. rw (tabulate-at (λ w. bit (A w)) n v (omega arith)) (bit_le (A v));
       }
 

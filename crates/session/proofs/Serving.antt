@@ -62,8 +62,8 @@ module _ (G : Graph) (given : List ℕ) (events : Lists) where
     pub table : Tabled starts links (pool_at i).graph
     pub keeps : Keeps starts links kept (pool_at i).plain
     pub reaching : kept.reaching ≡ true
-    pub starts-long : length starts ≡ length starts₀
-    pub links-long : length links ≡ length links₀
+    pub starts_long : length starts ≡ length starts₀
+    pub links_long : length links ≡ length links₀
     pub statuses : Filled (λ k. (row_from k).status) status₀ status i
     pub lifts : Filled (λ k. (row_from k).lifted) lifted₀ lifted i
     pub redos : Filled (λ k. (row_from k).redone) redone₀ redone i
@@ -80,8 +80,8 @@ serving_none {status = status} {lifted = lifted} {redone = redone} table keeps r
   table = table;
   keeps = keeps;
   reaching = reaching;
-  starts-long = refl;
-  links-long = refl;
+  starts_long = refl;
+  links_long = refl;
   statuses = filled_none _ status;
   lifts = filled_none _ lifted;
   redos = filled_none _ redone;
@@ -112,8 +112,8 @@ module _ {G : Graph} {given : List ℕ} {events : Lists} {s₀ l₀ status₀ li
           };
         };
         reaching = turned.reaching ∙ now.reaching;
-        starts-long = starts-kept ∙ now.starts-long;
-        links-long = links-kept ∙ now.links-long;
+        starts_long = starts-kept ∙ now.starts_long;
+        links_long = links-kept ∙ now.links_long;
         statuses = filled_more _ status₀ status i left.row.status (ap (λ z. z.status) same) hs now.statuses;
         lifts = filled_more _ lifted₀ lifted i left.row.lifted (ap (λ z. z.lifted) same) hl now.lifts;
         redos = filled_more _ redone₀ redone i left.row.redone (ap (λ z. z.redone) same) hr now.redos;

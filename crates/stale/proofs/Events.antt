@@ -86,8 +86,8 @@ module _ (n : ℕ) (x y : Columns) (bare fresh : List ℕ) (a b : ℕ) where
       let end = place-added moves a long first in
       let end' = place-added (set moves a 1) b end.long second in
       record {
-        bounds-long = new.long;
-        marks-long = end'.long;
+        bounds_long = new.long;
+        marks_long = end'.long;
         inside = λ v. added_twice old new v ∙ ap (λ z. eqb z 1 || inside_by x.component a b v || inside_by y.component a b v) (zeros-at 1024 v);
         rows = λ v h. rw (lt-ltb v n h, zeros-at 1024 v) at (added_thrice moved end end' v);
       }

@@ -46,7 +46,7 @@ Finds s l before later bound brought marks = (G : Graph) (A B ends : ℕ → Boo
 
 -- what the edge between a and b brings, by the columns and the bare levels before and after
 pub record Brought (n : ℕ) (before later : Columns) (bare fresh : List ℕ) (a b : ℕ) (bound marks : List ℕ) : Type 0 where
-  pub bounds-long : length bound ≡ 1024
-  pub marks-long : length marks ≡ 1024
+  pub bounds_long : length bound ≡ 1024
+  pub marks_long : length marks ≡ 1024
   pub inside : (v : ℕ) → marked bound v ≡ inside_by before.component a b v || inside_by later.component a b v
   pub rows : (v : ℕ) → v < n → marked marks v ≡ differs bare fresh v || eqb a v || eqb b v

@@ -9,7 +9,7 @@ ghost use Rattle.stale.specs.Marks.{marked as marked_in, looks as looks_by};
 ghost use Rattle.stale.specs.Columns.{above_by, Brought, Finds};
 
 // The columns of a record that tell which rows an event makes stale; `above` counts the neighbors that are anchored or of higher level.
-#[derive(Drop)]
+#[derive(Clone, Copy)]
 pub struct Columns {
     pub level: [u16; 1024],
     pub layer: [u16; 1024],

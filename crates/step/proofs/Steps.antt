@@ -178,15 +178,15 @@ module _ {s l : List ℕ} {kept : Record} (right : Right s l kept) (x : ℕ) (bx
 
     counts-after : Holds (set new.followers x 65535) (vertices s) (follower_count G (anchored_by bytes))
     unfolding follower_count
-    counts-after = column_after (followers G) (anchor-followers G L A x) kept.followers new.followers right.counts (omega (arith, r.counts.long, right.counts-long)) r.counts
+    counts-after = column_after (followers G) (anchor-followers G L A x) kept.followers new.followers right.counts (omega (arith, r.counts.long, right.counts_long)) r.counts
 
     reaches-after : Holds (set new.reached x 65535) (vertices s) (row_reached kept.reaching G (anchored_by bytes))
     reaches-after = column_after (reached_if kept.reaching G) (λ v h t k. ap (λ z. cond kept.reaching z 0) (anchor-reached G L A x v h t k))
-        kept.reached new.reached right.reaches (omega (arith, r.reaches.long, right.reaches-long)) r.reaches
+        kept.reached new.reached right.reaches (omega (arith, r.reaches.long, right.reaches_long)) r.reaches
 
     fresh-stamps : Renewed (stale G A x) (λ v. position) kept.stamp new.stamps (vertices s) → Holds (set new.stamps x position) (vertices s) (turn G position x S).stamps
     fresh-stamps stamps v h =
-        set_reads new.stamps x position v (λ e. omega (arith, r.stamps.long, right.stamps-long))
+        set_reads new.stamps x position v (λ e. omega (arith, r.stamps.long, right.stamps_long))
         ∙ ap (cond (eqb x v) position) (renewed-all stamps v h)
         ∙ either (eqb x v) (stale G A x v)
         ∙ ap (λ P. P.stamps v) (sym (turn-accepted G S x position accepted))
@@ -227,10 +227,10 @@ module _ {s l : List ℕ} {kept : Record} (right : Right s l kept) (x : ℕ) (bx
         columns = defined;
         bares = right.bares;
         counts = counts-after;
-        counts-long = omega (arith, length-set new.followers x 65535, r.counts.long, right.counts-long);
+        counts_long = omega (arith, length-set new.followers x 65535, r.counts.long, right.counts_long);
         reaches = reaches-after;
-        reaches-long = omega (arith, length-set new.reached x 65535, r.reaches.long, right.reaches-long);
-        stamps-long = omega (arith, length-set new.stamps x position, r.stamps.long, right.stamps-long);
+        reaches_long = omega (arith, length-set new.reached x 65535, r.reaches.long, right.reaches_long);
+        stamps_long = omega (arith, length-set new.stamps x position, r.stamps.long, right.stamps_long);
       };
       reaching = refl;
       stands = record { anchors = bytes_after ∙ ap (λ P. P.anchors) (sym (turn-accepted G S x position accepted)); stamps = stamps-after };

@@ -70,8 +70,8 @@ module _ {s l a levels : List ℕ} (leveled : Leveled s l a levels) (x : ℕ) wh
 
     -- the support without z, and what is lost with z, are the whole support
     module _ (z : List ℕ) (within : (p : ℕ) → In p z → T (C p)) (v : ℕ) (b : v < vertices s) where
-      level-same : (p : ℕ) → p < vertices s → T (gone levels z v p) → T (eqb (lev p) (lev v))
-      level-same p bp t =
+      level_same : (p : ℕ) → p < vertices s → T (gone levels z v p) → T (eqb (lev p) (lev v))
+      level_same p bp t =
           let e : T (alike levels p v) = and_r (member p z) _ t in
           rw (leveled.hold p bp, leveled.hold v b) at e
 
@@ -88,14 +88,14 @@ module _ {s l a levels : List ℕ} (leveled : Leveled s l a levels) (x : ℕ) wh
           (λ m. or_l (supports G A x (without z) v p) _ (or_r (outside v p) _ (and_i (without z p) _ (and_i (C p) _ (and_l (C p) _ o) m) (and_r (C p) _ o))))))
           (λ t. or-e (supports G A x (without z) v p) _ t
           (supports_mono G L A x (without z) C v p (and_l (C p) _))
-          (λ o. or_r (outside v p) _ (and_i (C p) _ (gone_candidate p o) (level-same p bp o))))
+          (λ o. or_r (outside v p) _ (and_i (C p) _ (gone_candidate p o) (level_same p bp o))))
 
       apart : (p : ℕ) → p < vertices s → T (supports G A x (without z) v p) → T (not (gone levels z v p))
       apart p bp t = not_T (gone levels z v p) (λ o.
           or-e (outside v p) _ t
           (λ m. or-e (adding A x p) _ m
           (λ y. T_not (adding A x p) (candidate_free G L A x p (candidate p (gone_candidate p o))) y)
-          (λ y. absurd (omega (arith, leb→le (suc (lev v)) (lev p) y, eqb→eq (lev p) (lev v) (level-same p bp o)))))
+          (λ y. absurd (omega (arith, leb→le (suc (lev v)) (lev p) y, eqb→eq (lev p) (lev v) (level_same p bp o)))))
           (λ m. T_not (member p z) (and_r (C p) _ (and_l (without z p) _ m)) (and_l (member p z) _ o)))
 
       support_split : count (supports G A x C v) (neighbors s l v) ≡ count (supports G A x (without z) v) (neighbors s l v) + loss_of s l levels z v

@@ -64,9 +64,9 @@ module _ {n : ℕ} {C : ℕ → Bool} {st : State} (k : Listed n C st) where
   -- support may change
   listed-store : (v c : ℕ) → Listed n C (store v c st)
   listed-store v c = record {
-    marks-long = k.marks-long;
-    support-long = omega (arith, k.support-long, length-set st.support v c);
-    struck-long = k.struck-long;
+    marks_long = k.marks_long;
+    support_long = omega (arith, k.support_long, length-set st.support v c);
+    struck_long = k.struck_long;
     room = k.room;
     small = k.small;
     distinct = k.distinct;
@@ -76,15 +76,15 @@ module _ {n : ℕ} {C : ℕ → Bool} {st : State} (k : Listed n C st) where
 
   module _ (v : ℕ) (c : T (C v)) (f : In v (out st) → ⊥) where
     cross-list : out (cross v st) ≡ out st ++ v ∷ []
-    cross-list = rw add-one (take-suc-set st.struck st.end v (omega (arith, k.struck-long, out-room v c f)))
+    cross-list = rw add-one (take-suc-set st.struck st.end v (omega (arith, k.struck_long, out-room v c f)))
 
     -- struck out, it is listed
     listed-cross : Listed n C (cross v st)
     listed-cross = record {
-      marks-long = omega (arith, k.marks-long, length-set st.marks v 1);
-      support-long = k.support-long;
-      struck-long = omega (arith, k.struck-long, length-set st.struck st.end v);
-      room = omega (arith, k.struck-long, out-room v c f, length-set st.struck st.end v);
+      marks_long = omega (arith, k.marks_long, length-set st.marks v 1);
+      support_long = k.support_long;
+      struck_long = omega (arith, k.struck_long, length-set st.struck st.end v);
+      room = omega (arith, k.struck_long, out-room v c f, length-set st.struck st.end v);
       small = k.small;
       distinct = rw cross-list (distinct_snoc (out st) v k.distinct f);
       within = λ w i. ⊎_elim (k.within w) (⊎_elim (λ e. subst (λ z. T (C z)) (sym e) c) (λ j. absurd j)) ((in_append (out st) (v ∷ []) w).0 (rw cross-list at i));
@@ -92,7 +92,7 @@ module _ {n : ℕ} {C : ℕ → Bool} {st : State} (k : Listed n C st) where
           (λ t.
           let e : w ≡ v = eqb→eq w v t in
           let m : member v (out st ++ v ∷ []) ≡ true = true_of (member v (out st ++ v ∷ [])) (member_snoc v (out st)) in
-          rw (e, m) (get_or-set_same st.marks v 1 0 (omega (arith, k.marks-long, k.small v c))))
+          rw (e, m) (get_or-set_same st.marks v 1 0 (omega (arith, k.marks_long, k.small v c))))
           (λ t.
           let m : member w (out st ++ v ∷ []) ≡ member w (out st) = member-other w v (out st) (neqb w v t) in
           rw m (get_or-set_other st.marks v w 1 0 (neqb w v t) ∙ k.marked w)));
@@ -172,9 +172,9 @@ pub weigh_start : {n : ℕ} {levels : List ℕ} {S : ℕ → ℕ} {marks queue s
 unfolding Rattle.finite.specs.Search.any
 weigh_start {queue = queue} {tail = tail} k a b = record {
   listed = record {
-    marks-long = k.long;
-    support-long = a;
-    struck-long = b;
+    marks_long = k.long;
+    support_long = a;
+    struck_long = b;
     room = omega arith;
     small = λ v t. k.within v (member-e v (take tail queue) t);
     distinct = tt;
@@ -195,7 +195,7 @@ module _ {n : ℕ} {levels : List ℕ} {S : ℕ → ℕ} {q : List ℕ} {i : ℕ
       let f : (In v (out st) → ⊥) = λ j. distinct-before q i d h (subst (λ z. In z (take i q)) (sym e) (k.seen v j)) in
       let more : (w : ℕ) → In w (take (i + 1) q) → In w (take i q) ⊎ (w ≡ v) = λ w j. ⊎_elim inl (λ z. inr (z ∙ e)) ((in_take-more q i w h).0 j) in
       let before : (w : ℕ) → In w (take i q) → In w (take (i + 1) q) = λ w j. (in_take-more q i w h).1 (inl j) in
-      let here : get_or (set st.support v (S v)) v 0 ≡ S v = get_or-set_same st.support v (S v) 0 (omega (arith, k.listed.support-long, k.listed.small v c)) in
+      let here : get_or (set st.support v (S v)) v 0 ≡ S v = get_or-set_same st.support v (S v) 0 (omega (arith, k.listed.support_long, k.listed.small v c)) in
       let counts : (w : ℕ) → In w (take (i + 1) q) → get_or (set st.support v (S v)) w 0 ≡ S w = λ w j. split (eqb w v)
       (λ t. let z : w ≡ v = eqb→eq w v t in rw z here)
       (λ t. get_or-set_other st.support v w (S v) 0 (neqb w v t) ∙ k.counted w (⊎_elim (λ y. y) (λ z. absurd (neqb w v t z)) (more w j))) in
@@ -234,9 +234,9 @@ module _ {n : ℕ} {levels : List ℕ} {S : ℕ → ℕ} {q : List ℕ} {i : ℕ
       let inside : (v : ℕ) → T (marked st.marks v) → In v (take i q) = λ v t. rw all (member-e v q (subst T (e v) t)) in
       record {
         listed = record {
-          marks-long = k.listed.marks-long;
-          support-long = k.listed.support-long;
-          struck-long = k.listed.struck-long;
+          marks_long = k.listed.marks_long;
+          support_long = k.listed.support_long;
+          struck_long = k.listed.struck_long;
           room = k.listed.room;
           small = λ v t. k.listed.small v (subst T (e v) t);
           distinct = k.listed.distinct;
@@ -341,7 +341,7 @@ module _ {s l : List ℕ} (table : SoundTable s l) {levels : List ℕ} {S : ℕ 
         let c = alive.0 in
         let f = alive.1 in
         let less = get_or st.support w 0 - 1 in
-        let here : get_or (set st.support w less) w 0 ≡ less = get_or-set_same st.support w less 0 (omega (arith, k.listed.support-long, k.listed.small w c)) in
+        let here : get_or (set st.support w less) w 0 ≡ less = get_or-set_same st.support w less 0 (omega (arith, k.listed.support_long, k.listed.small w c)) in
         let listed = listed-store k.listed w less in
         let crossed = cross-list listed w c f in
         let counts : (v : ℕ) → T (C v) → (In v (out st) → ⊥) → get_or (set st.support w less) v 0 + lost₁ v ≡ S v = λ v a o. split (eqb v w)

@@ -51,9 +51,9 @@ weaken_of levels u w st =
 
 -- those struck out are in C, below n, each once; marks are 1 for these, 2 for the others in C, 0 else
 pub record Listed (n : ℕ) (C : ℕ → Bool) (st : State) : Type 0 where
-  pub marks-long : n ≤ length st.marks
-  pub support-long : n ≤ length st.support
-  pub struck-long : n ≤ length st.struck
+  pub marks_long : n ≤ length st.marks
+  pub support_long : n ≤ length st.support
+  pub struck_long : n ≤ length st.struck
   pub room : st.end ≤ length st.struck
   pub small : (v : ℕ) → T (C v) → v < n
   pub distinct : Distinct (out st)

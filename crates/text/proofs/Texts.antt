@@ -64,8 +64,8 @@ pub record Riding (t : List ℕ) (n at : ℕ) (starts₀ links₀ starts links :
   pub lines : length (rider_lines_at n t at).lists ≡ v + length (rider_lines_from (n - v) v t p).lists
   pub low : 2 * count ≤ p
   pub inside : p ≤ length t
-  pub long-starts : length starts ≡ length starts₀
-  pub long-links : length links ≡ length links₀
+  pub long_starts : length starts ≡ length starts₀
+  pub long_links : length links ≡ length links₀
 
 pub riding_first : (t : List ℕ) (n at : ℕ) (starts links : List ℕ) → at ≤ length t → Riding t n at starts links starts links at 0 2 0
 riding_first t n at starts links h =
@@ -81,8 +81,8 @@ riding_first t n at starts links h =
       lines = let q = ap (λ (r : Lists). length r.lists) e in omega arith;
       low = omega arith;
       inside = h;
-      long-starts = refl;
-      long-links = refl;
+      long_starts = refl;
+      long_links = refl;
     }
 
 module _ (t : List ℕ) (n at : ℕ) (starts₀ links₀ starts links : List ℕ) (p count number v : ℕ) (r : Riding t n at starts₀ links₀ starts links p count number v) where
@@ -106,8 +106,8 @@ module _ (t : List ℕ) (n at : ℕ) (starts₀ links₀ starts links : List ℕ
         lines = let q = r.lines ∙ ap (λ (x : Lists). v + length x.lists) m in omega (arith, q);
         low = omega (arith, r.low, far.0, kept.1);
         inside = far.1;
-        long-starts = ap length es ∙ length-set starts v count ∙ r.long-starts;
-        long-links = ap length done.1 ∙ length-sets links count vs ∙ r.long-links;
+        long_starts = ap length es ∙ length-set starts v count ∙ r.long_starts;
+        long_links = ap length done.1 ∙ length-sets links count vs ∙ r.long_links;
       }
 
   pub riding_departs :

@@ -21,7 +21,7 @@ mark-edge-requires c κs =
 mark-stale-requires : tie.Need-mark-stale-requires
 mark-stale-requires c κs =
     let edge = c.before.before in
-    ((start edge.before).requires.0, (edge.mark-edge.ensures.bounds-long, edge.mark-edge.ensures.marks-long))
+    ((start edge.before).requires.0, (edge.mark-edge.ensures.bounds_long, edge.mark-edge.ensures.marks_long))
 
 returns : tie.Need-returns
 returns c columns bares G before =

@@ -25,7 +25,7 @@ given c = call_told _ _ _ _ _ _ (told c)
 
 -- the sum is not held: it is that of the quotas
 lines : (c : tie.After-total) → c.total.result ≡ quota_sum (entry c.before.before).args.quotas.now
-lines c = omega (arith, c.total.ensures, (given c.before.before).sum-small)
+lines c = omega (arith, c.total.ensures, (given c.before.before).sum_small)
 
 test-houses-requires : tie.Need-test-houses-requires
 test-houses-requires c κs = search rules
@@ -46,7 +46,7 @@ write-shared-requires : tie.Need-write-shared-requires
 write-shared-requires c κs =
     let summed = c.before in
     let grant = given summed.before.before in
-    (grant.admitted, (grant.bytes-long, (omega (arith, grant.houses_long), (grant.some, (grant.few, rw (lines summed) grant.enough)))))
+    (grant.admitted, (grant.bytes_long, (omega (arith, grant.houses_long), (grant.some, (grant.few, rw (lines summed) grant.enough)))))
 
 returns : tie.Need-returns
 returns c =

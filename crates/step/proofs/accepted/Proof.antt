@@ -6,5 +6,5 @@ use Rattle.step.proofs.accepted.Tie as tie
 returns : tie.Need-returns
 returns c = refl
 
-pub accepted-spec : {M : Type 1} → statement M
-accepted-spec = tie.close (tie.spec returns)
+pub accepted_spec : {M : Type 1} → statement M
+accepted_spec = tie.close (tie.spec returns)

@@ -25,14 +25,14 @@ all-counted : (stands : ℕ → ℕ → ℕ → Bool) (part : List ℕ) (k l m j
 all-counted stands part k l m j i total level layer h counted = rw (← level, ← layer) (counted.1 ∙ count-end (stands k l) part i h)
 
 abbrev invariant-loop-i : tie.invariant-loop-i
-invariant-loop-i part anchored levels layers pair level layer lowest before in-level₀ in-pair₀ in-before₀ i₀ in-level in_pair in-before i =
+invariant-loop-i part anchored levels layers pair level layer lowest before in-level₀ in-pair₀ in-before₀ i₀ in_level in_pair in_before i =
     (i ≤ length part)
-    × Counted (stands_at anchored levels layers lowest.level.0 lowest.layer.0) part i in-level
+    × Counted (stands_at anchored levels layers lowest.level.0 lowest.layer.0) part i in_level
     × Counted (stands_at anchored levels layers pair.level.0 pair.layer.0) part i in_pair
-    × Counted (stands_at anchored levels layers before.level.0 before.layer.0) part i in-before
+    × Counted (stands_at anchored levels layers before.level.0 before.layer.0) part i in_before
 
 abbrev decreases-loop-i : tie.decreases-loop-i
-decreases-loop-i part anchored levels layers pair level layer lowest before in-level₀ in-pair₀ in-before₀ i₀ in-level in_pair in-before i = length part - i
+decreases-loop-i part anchored levels layers pair level layer lowest before in-level₀ in-pair₀ in-before₀ i₀ in_level in_pair in_before i = length part - i
 
 abbrev head : tie.After-shared_slice_known-in-loop-i-1 invariant-loop-i decreases-loop-i → tie.At-loop-i invariant-loop-i decreases-loop-i
 head c = c.before.before

@@ -44,13 +44,13 @@ module _ (G : Graph) (A : ℕ → Bool) (lev lay : ℕ → ℕ) (v : ℕ) where
 record Counts (G : Graph) (A : ℕ → Bool) (lev lay : ℕ → ℕ) (v level pair before : ℕ) : Type 0 where
   placed : misplaced G A lev lay v ≡ false
   free : A v ≡ false
-  in-level : level ≡ support G A lev lay v (lev v) 0
+  in_level : level ≡ support G A lev lay v (lev v) 0
   in_pair : pair ≡ support G A lev lay v (lev v) (lay v)
-  in-before : before ≡ support G A lev lay v (lev v) (lay v - 1)
+  in_before : before ≡ support G A lev lay v (lev v) (lay v - 1)
 
 -- they decide
 counted : (G : Graph) (A : ℕ → Bool) (lev lay : ℕ → ℕ) (v level pair before : ℕ) → Counts G A lev lay v level pair before → fault_at G A lev lay v ≡ cond (ltb level (lev v)) 19 (cond (ltb (lev v) pair) 20 (cond (ltb 1 (lay v) && leb before (lev v)) 21 65535))
-counted G A lev lay v level pair before counts = free-fault G A lev lay v counts.placed counts.free ∙ rw (counts.in-level, counts.in_pair, counts.in-before)
+counted G A lev lay v level pair before counts = free-fault G A lev lay v counts.placed counts.free ∙ rw (counts.in_level, counts.in_pair, counts.in_before)
 
 -- ---- the code's facts in those words
 
@@ -89,9 +89,9 @@ counts c =
     let totals = c.count_support-support.ensures in record {
       placed = told c.before.before.before.before.before ∙ c.if-is_misplaced.false;
       free = ne_eqb _ _ c.if-is_anchored.false;
-      in-level = count-is stands _ _ _ _ _ _ near new.0 refl _ totals.0;
+      in_level = count-is stands _ _ _ _ _ _ near new.0 refl _ totals.0;
       in_pair = count-is stands _ _ _ _ _ _ near new.0 new.1 _ totals.1.0;
-      in-before = count-is stands _ _ _ _ _ _ near new.0 (ap (λ l. l - 1) new.1) _ totals.1.1;
+      in_before = count-is stands _ _ _ _ _ _ near new.0 (ap (λ l. l - 1) new.1) _ totals.1.1;
     }
 
 mul-level : tie.Need-offset_bounds-levels-v

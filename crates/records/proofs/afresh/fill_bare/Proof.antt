@@ -4,16 +4,15 @@ use borrow.Author.Rules.{rules}
 use Rattle.records.proofs.afresh.fill_bare.Statement.{statement}
 use Rattle.records.proofs.afresh.fill_bare.Tie as tie
 
-slice-aggregate-peel : tie.Need-slice-aggregate-peel
+slice-aggregate-peel : tie.Need-slice_bounds-peel-end
 slice-aggregate-peel c = search rules
 
 peel-requires : tie.Need-peel-requires
-peel-requires c κs = let start = c.before.before.before.before.before in nobody-admitted start.args.starts.now start.args.links.now start.requires
+peel-requires c κs = nobody-admitted c.args.starts.now c.args.links.now c.requires
 
 returns : tie.Need-returns
 returns c =
-    let start = c.before.before.before.before.before.before in
-    bare_held start.args.starts.now start.args.links.now c.peel.new.1.1.1.0 c.peel.ensures.leveled.hold
+    bare_held c.args.starts.now c.args.links.now c.peel.new.level c.peel.ensures.leveled.hold
 
-pub fill-bare-spec : {M : Type 1} → statement M
-fill-bare-spec = tie.close (tie.spec slice-aggregate-peel peel-requires returns)
+pub fill_bare_spec : {M : Type 1} → statement M
+fill_bare_spec = tie.close (tie.spec slice-aggregate-peel peel-requires returns)

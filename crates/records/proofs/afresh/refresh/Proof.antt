@@ -7,14 +7,13 @@ use Rattle.records.proofs.afresh.refresh.Tie as tie
 fill-requires : tie.Need-fill-requires
 fill-requires c κs = search rules
 
-fill-above-requires : tie.Need-fill-above-requires
+fill-above-requires : tie.Need-fill_above-requires
 fill-above-requires c κs = search rules
 
 returns : tie.Need-returns
 returns c =
-    let filled = c.before.before.before in
-    let sheet = filled.fill.ensures in
-    columns-defined filled.before.before.before.before.before.before.before.requires.table sheet.0 sheet.1.0 sheet.1.1 c.fill-above.ensures
+    let sheet = c.fill.ensures in
+    columns-defined c.requires.table sheet.0 sheet.1.0 sheet.1.1 c.fill_above.ensures
 
-pub refresh-spec : {M : Type 1} → statement M
-refresh-spec = tie.close (tie.spec fill-requires fill-above-requires returns)
+pub refresh_spec : {M : Type 1} → statement M
+refresh_spec = tie.close (tie.spec fill-requires fill-above-requires returns)

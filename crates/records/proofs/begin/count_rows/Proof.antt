@@ -22,70 +22,67 @@ counted starts links anchored = follower_count (graph_of starts links) (anchored
 abbrev found : Bool → List ℕ → List ℕ → List ℕ → ℕ → ℕ
 found reaching starts links anchored = row_reached reaching (graph_of starts links) (anchored_by anchored)
 
-abbrev invariant-loop : tie.invariant-loop
-invariant-loop starts links anchored level layer reaching followers₀ reached₀ n v₀ followers reached v =
+abbrev invariant-loop-v : tie.invariant-loop-v
+invariant-loop-v starts links anchored level layer reaching followers₀ reached₀ n v₀ followers reached v =
     (v ≤ n) × ((length followers ≡ 1024) × Holds followers v (counted starts links anchored)) × ((length reached ≡ 1024) × Holds reached v (found reaching starts links anchored))
 
-abbrev decreases-loop : tie.decreases-loop
-decreases-loop starts links anchored level layer reaching followers₀ reached₀ n v₀ followers reached v = n - v
+abbrev decreases-loop-v : tie.decreases-loop-v
+decreases-loop-v starts links anchored level layer reaching followers₀ reached₀ n v₀ followers reached v = n - v
 
-sub-n : tie.Need-overflow-sub-n invariant-loop decreases-loop
+sub-n : tie.Need-overflow_sub-n invariant-loop-v decreases-loop-v
 sub-n c = search rules
 
-loop-holds : tie.Need-loop-init invariant-loop decreases-loop
+loop-holds : tie.Need-loop-v-init invariant-loop-v decreases-loop-v
 loop-holds c = search rules
 
-count-row-requires : tie.Need-count-row-requires invariant-loop decreases-loop
+count-row-requires : tie.Need-count_row-counts-requires invariant-loop-v decreases-loop-v
 count-row-requires c κs = search rules
 
-mul-followers : tie.Need-overflow-mul-followers invariant-loop decreases-loop
+mul-followers : tie.Need-offset_bounds-followers-v invariant-loop-v decreases-loop-v
 mul-followers c = search rules
 
-element-write-followers : tie.Need-element-write-followers invariant-loop decreases-loop
+element-write-followers : tie.Need-bounds-followers-v invariant-loop-v decreases-loop-v
 element-write-followers c = search rules
 
-mul-reached : tie.Need-overflow-mul-reached invariant-loop decreases-loop
+mul-reached : tie.Need-offset_bounds-reached-v invariant-loop-v decreases-loop-v
 mul-reached c = search rules
 
-element-write-reached : tie.Need-element-write-reached invariant-loop decreases-loop
+element-write-reached : tie.Need-bounds-reached-v invariant-loop-v decreases-loop-v
 element-write-reached c = search rules
 
-add-v : tie.Need-overflow-add-v invariant-loop decreases-loop
+add-v : tie.Need-overflow_add-v invariant-loop-v decreases-loop-v
 add-v c = search rules
 
-loop-less : tie.Need-loop-smaller invariant-loop decreases-loop
+loop-less : tie.Need-loop-v-smaller invariant-loop-v decreases-loop-v
 loop-less c = search rules
 
-loop-again : tie.Need-loop-preserved invariant-loop decreases-loop
+loop-again : tie.Need-loop-v-preserved invariant-loop-v decreases-loop-v
 loop-again c =
-    let head = c.before.before in
-    let start = head.before.before.before in
-    let args = start.args in
-    let small = start.requires.0.table.small in
-    let row = c.count-row.ensures in
-    let inv = head.loop.invariant in
-    let v = head.loop.v in (
+    let args = c.args in
+    let small = c.requires.0.table.small in
+    let row = c.count_row-counts.ensures in
+    let inv = c.loop-v.invariant in
+    let v = c.loop-v.v in (
       omega arith,
-      (simp length-set inv.1.0, rw row.0 (holds_more head.loop.followers (counted args.starts.now args.links.now args.anchored.now) v (omega (arith, inv.1.0)) inv.1.1)),
-      (simp length-set inv.2.0, rw row.1 (holds_more head.loop.reached (found args.reaching args.starts.now args.links.now args.anchored.now) v (omega (arith, inv.2.0)) inv.2.1)),
+      (simp length-set inv.1.0, rw row.0 (holds_more c.loop-v.followers (counted args.starts.now args.links.now args.anchored.now) v (omega (arith, inv.1.0)) inv.1.1)),
+      (simp length-set inv.2.0, rw row.1 (holds_more c.loop-v.reached (found args.reaching args.starts.now args.links.now args.anchored.now) v (omega (arith, inv.2.0)) inv.2.1)),
     )
 
-returns : tie.Need-returns invariant-loop decreases-loop
+returns : tie.Need-returns invariant-loop-v decreases-loop-v
 returns c =
-    let head = c.before in
-    let args = head.before.before.before.args in
-    let done : head.loop.v ≡ vertices args.starts.now = omega arith in
-    let inv = head.loop.invariant in (
-      (inv.1.0, subst (λ k. Holds head.loop.followers k (counted args.starts.now args.links.now args.anchored.now)) done inv.1.1),
-      (inv.2.0, subst (λ k. Holds head.loop.reached k (found args.reaching args.starts.now args.links.now args.anchored.now)) done inv.2.1),
+    let args = c.args in
+    let done : c.loop-v.v ≡ vertices args.starts.now = omega arith in
+    let inv = c.loop-v.invariant in (
+      (inv.1.0, subst (λ k. Holds c.loop-v.followers k (counted args.starts.now args.links.now args.anchored.now)) done inv.1.1),
+      (inv.2.0, subst (λ k. Holds c.loop-v.reached k (found args.reaching args.starts.now args.links.now args.anchored.now)) done inv.2.1),
     )
 
-pub count-rows-spec : {M : Type 1} → statement M
-count-rows-spec =
+pub count_rows_spec : {M : Type 1} → statement M
+count_rows_spec =
     tie.close
     (tie.spec
-    invariant-loop
-    decreases-loop
+    invariant-loop-v
+    decreases-loop-v
     sub-n
     loop-holds
     count-row-requires

@@ -126,10 +126,10 @@ loop-again c =
     )
 
 same_length : tie.Need-same-length invariant-loop decreases-loop
-same_length c = c.before.loop.invariant.1.starts-long
+same_length c = c.before.loop.invariant.1.starts_long
 
 same-length-2 : tie.Need-same-length-2 invariant-loop decreases-loop
-same-length-2 c = c.before.loop.invariant.1.links-long ∙ (zeroed c.before).zero-behind.kept.1.0
+same-length-2 c = c.before.loop.invariant.1.links_long ∙ (zeroed c.before).zero-behind.kept.1.0
 
 same-length-3 : tie.Need-same-length-3 invariant-loop decreases-loop
 same-length-3 c = c.before.loop.invariant.1.statuses.long

@@ -15,85 +15,83 @@ use Rattle.turns.proofs.Choices.{Leading, leading_none, leading_keep, leading_ta
 use Rattle.turns.proofs.choose.choose.Statement.{statement}
 use Rattle.turns.proofs.choose.choose.Tie as tie
 
-abbrev invariant-loop : tie.invariant-loop
-invariant-loop n house c anchored followers level bare chosen₀ greatest₀ v₀ chosen greatest v = (v ≤ n) × Leading n (yield_in house c (yield_of anchored followers level bare)) chosen (to_z w16 greatest) v
+abbrev invariant-loop-v : tie.invariant-loop-v
+invariant-loop-v n house c anchored followers level bare chosen₀ greatest₀ v₀ chosen greatest v = (v ≤ n) × Leading n (yield_in house c (yield_of anchored followers level bare)) chosen (to_z w16 greatest) v
 
-abbrev decreases-loop : tie.decreases-loop
-decreases-loop n house c anchored followers level bare chosen₀ greatest₀ v₀ chosen greatest v = n - v
+abbrev decreases-loop-v : tie.decreases-loop-v
+decreases-loop-v n house c anchored followers level bare chosen₀ greatest₀ v₀ chosen greatest v = n - v
 
 -- the entry
-abbrev start : tie.At-loop invariant-loop decreases-loop → tie.Start invariant-loop decreases-loop
+abbrev start : tie.At-loop-v invariant-loop-v decreases-loop-v → tie.Start invariant-loop-v decreases-loop-v
 start c = c.before.before.before.before.before.before
 
-loop-holds : tie.Need-loop-init invariant-loop decreases-loop
+loop-holds : tie.Need-loop-v-init invariant-loop-v decreases-loop-v
 loop-holds c = (omega arith, leading_none _ _)
 
-mul-own : tie.Need-overflow-mul-own invariant-loop decreases-loop
+mul-own : tie.Need-offset_bounds-house-v invariant-loop-v decreases-loop-v
 mul-own c = search rules
 
-shared-slice-read-own : tie.Need-shared-slice-read-own invariant-loop decreases-loop
+shared-slice-read-own : tie.Need-bounds-house-v invariant-loop-v decreases-loop-v
 shared-slice-read-own c = search rules
 
-cast-own : tie.Need-overflow-cast-own invariant-loop decreases-loop
-cast-own c = omega (arith, c.shared-slice-known2.given c.before.before.loop.v)
+cast-own : tie.Need-overflow_cast-own invariant-loop-v decreases-loop-v
+cast-own c = omega (arith, c.shared_slice_known-in-loop-v-1.given c.loop-v.v)
 
-array-read-yield-in : tie.Need-array-read-yield-in invariant-loop decreases-loop
+array-read-yield-in : tie.Need-bounds-anchored-v invariant-loop-v decreases-loop-v
 array-read-yield-in c = search rules
 
-mul-yield-in : tie.Need-overflow-mul-yield-in invariant-loop decreases-loop
+mul-yield-in : tie.Need-offset_bounds-followers-v invariant-loop-v decreases-loop-v
 mul-yield-in c = search rules
 
-array-read-yield-in-2 : tie.Need-array-read-yield-in-2 invariant-loop decreases-loop
+array-read-yield-in-2 : tie.Need-bounds-followers-v invariant-loop-v decreases-loop-v
 array-read-yield-in-2 c = search rules
 
-mul-yield-in-2 : tie.Need-overflow-mul-yield-in-2 invariant-loop decreases-loop
+mul-yield-in-2 : tie.Need-offset_bounds-level-v invariant-loop-v decreases-loop-v
 mul-yield-in-2 c = search rules
 
-array-read-yield-in-3 : tie.Need-array-read-yield-in-3 invariant-loop decreases-loop
+array-read-yield-in-3 : tie.Need-bounds-level-v invariant-loop-v decreases-loop-v
 array-read-yield-in-3 c = search rules
 
-mul-yield-in-3 : tie.Need-overflow-mul-yield-in-3 invariant-loop decreases-loop
+mul-yield-in-3 : tie.Need-offset_bounds-bare-v invariant-loop-v decreases-loop-v
 mul-yield-in-3 c = search rules
 
-array-read-yield-in-4 : tie.Need-array-read-yield-in-4 invariant-loop decreases-loop
+array-read-yield-in-4 : tie.Need-bounds-bare-v invariant-loop-v decreases-loop-v
 array-read-yield-in-4 c = search rules
 
-yield-in-requires : tie.Need-yield-in-requires invariant-loop decreases-loop
-yield-in-requires c κs e = let at = c.before.before in omega (arith, (start at).requires.1.1 at.loop.v (omega arith) e)
+yield-in-requires : tie.Need-yield_in-y-requires invariant-loop-v decreases-loop-v
+yield-in-requires c κs e = omega (arith, (start c.before.before).requires.1.1 c.loop-v.v (omega arith) e)
 
-add-v : tie.Need-overflow-add-v invariant-loop decreases-loop
+add-v : tie.Need-overflow_add-v invariant-loop-v decreases-loop-v
 add-v c = search rules
 
-loop-less : tie.Need-loop-smaller invariant-loop decreases-loop
+loop-less : tie.Need-loop-v-smaller invariant-loop-v decreases-loop-v
 loop-less c = search rules
 
-loop-again : tie.Need-loop-preserved invariant-loop decreases-loop
+loop-again : tie.Need-loop-v-preserved invariant-loop-v decreases-loop-v
 loop-again c =
-    let at = c.before.before.before.before in
-    let leads = at.loop.invariant.1 in
-    let greatest = to_z w16 at.loop.greatest in
-    let called = c.before.pool_yield in
-    let stored = to_z-of_z {w = w16} {z = called.result} (record { sfits = called.type-inv }) ∙ called.ensures in (
+    let leads = c.loop-v.invariant.1 in
+    let greatest = to_z w16 c.loop-v.greatest-bits in
+    let called = c.yield_in-y in
+    let stored = to_z-of_z {w = w16} {z = called.result} (record { sfits = called.type_inv }) ∙ called.ensures in (
       omega arith,
       ⊎_elim
-          (λ w. rw (w.1, w.2, stored) (leading_take _ _ leads (omega arith) (subst (λ y. greatest <ℤ y) stored (lt_z_yes (of_true _ w.0.taken)))))
-          (λ w. rw (w.1, w.2) (leading_keep _ _ leads (subst (λ y. y ≤ℤ greatest) stored (lt_z_no (of_false _ w.0.left)))))
-          c.if1.branch,
+          (λ w. rw (w.chosen-is, w.greatest-is-bits, stored) (leading_take _ _ leads (omega arith) (subst (λ y. greatest <ℤ y) stored (lt_z_yes (of_true _ w.if-greatest-y.true)))))
+          (λ w. rw (w.chosen-is, w.greatest-is-bits) (leading_keep _ _ leads (subst (λ y. y ≤ℤ greatest) stored (lt_z_no (of_false _ w.if-greatest-y.false)))))
+          c.if-greatest-y.branch-raw,
     )
 
-returns : tie.Need-returns invariant-loop decreases-loop
+returns : tie.Need-returns invariant-loop-v decreases-loop-v
 returns c =
-    let at = c.before in
-    let x = (start at).args in
-    let done : at.loop.v ≡ x.n = omega arith in
-    leading_all _ _ (subst (Leading x.n (yield_in x.house.now x.c (yield_at x.kept)) at.loop.chosen (to_z w16 at.loop.greatest)) done at.loop.invariant.1)
+    let x = (start c.before).args in
+    let done : c.loop-v.v ≡ x.n = omega arith in
+    leading_all _ _ (subst (Leading x.n (yield_in x.house.now x.c (yield_at x.kept)) c.loop-v.chosen (to_z w16 c.loop-v.greatest-bits)) done c.loop-v.invariant.1)
 
 pub choose_spec : {M : Type 1} → statement M
 choose_spec =
     tie.close
     (tie.spec
-    invariant-loop
-    decreases-loop
+    invariant-loop-v
+    decreases-loop-v
     loop-holds
     mul-own
     shared-slice-read-own

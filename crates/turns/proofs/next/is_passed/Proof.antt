@@ -6,14 +6,14 @@ use borrow.Author.Rules.{rules}
 use Rattle.turns.proofs.next.is_passed.Statement.{statement}
 use Rattle.turns.proofs.next.is_passed.Tie as tie
 
-returns : tie.Need-returns
-returns c = rw (eq-eqb c.before.before.args.left 0 c.if1.true)
+returns : tie.Need-returns-then-left-eq0
+returns c = rw (eq-eqb c.args.left 0 c.if-left-eq0.true)
 
-has-free-requires : tie.Need-has-free-requires
+has-free-requires : tie.Need-has_free-requires
 has-free-requires c κs = search rules
 
-returns-2 : tie.Need-returns-2
-returns-2 c = ap not c.has-free.ensures ∙ sym (rw (ne_eqb c.before.before.before.args.left 0 c.before.if1.false))
+returns-2 : tie.Need-returns
+returns-2 c = ap not c.has_free.ensures ∙ sym (rw (ne_eqb c.args.left 0 c.if-left-eq0.false))
 
-pub is-passed-spec : {M : Type 1} → statement M
-is-passed-spec = tie.close (tie.spec returns has-free-requires returns-2)
+pub is_passed_spec : {M : Type 1} → statement M
+is_passed_spec = tie.close (tie.spec returns has-free-requires returns-2)

@@ -13,41 +13,39 @@ use Rattle.turns.specs.Turns.{turns_by}
 use Rattle.turns.proofs.next.take_turn.Statement.{statement}
 use Rattle.turns.proofs.next.take_turn.Tie as tie
 
-returns : tie.Need-returns
-returns c = let args = c.before.args in sym (turns-stay args.houses args.c (turns_by args.turns) c.if1.true)
+returns : tie.Need-returns-then-houses-c
+returns c = let args = c.args in sym (turns-stay args.houses args.c (turns_by args.turns) c.if-houses-c.true)
 
-turns-after-requires : tie.Need-turns-after-requires
+turns-after-requires : tie.Need-turns_after-next-requires
 turns-after-requires c κs = search rules
 
-mul_left : tie.Need-overflow-mul-left
+mul_left : tie.Need-offset_bounds-left-c
 mul_left c = search rules
 
-array-read-left : tie.Need-array-read-left
+array-read-left : tie.Need-bounds-left-c
 array-read-left c = search rules
 
-sub-left : tie.Need-overflow-sub-left
+sub-left : tie.Need-overflow_sub-left
 sub-left c =
-    let start = c.before.before.before in
-    omega (arith, start.requires.1 c.before.before.if1.false)
+    omega (arith, c.requires.1 c.if-houses-c.false)
 
-array-write-left : tie.Need-array-write-left
+array-write-left : tie.Need-bounds-left-c-2
 array-write-left c = search rules
 
-returns-2 : tie.Need-returns-2
+returns-2 : tie.Need-returns
 returns-2 c =
-    let start = c.before.before.before in
-    let x = start.args.c in
-    let left = start.args.turns.left in
-    let low = c.before.before.if1.false in
-    let within : x < length left = split (ltb x (length left)) (ltb→lt x (length left)) (λ t. absurd (omega (arith, get_or-eq_default left 0 (nltb→le x (length left) t), start.requires.1 low))) in
-    ap₂ (λ z f. record { next = z; left = f }) c.before.turns-after.ensures
+    let x = c.args.c in
+    let left = c.args.turns.left in
+    let low = c.if-houses-c.false in
+    let within : x < length left = split (ltb x (length left)) (ltb→lt x (length left)) (λ t. absurd (omega (arith, get_or-eq_default left 0 (nltb→le x (length left) t), c.requires.1 low))) in
+    ap₂ (λ z f. record { next = z; left = f }) c.turns_after-next.ensures
     (fun_ext (λ e. set_reads left x (get_or left x 0 - 1) e (λ q. within) ∙ split (eqb x e)
     (λ t. ap (λ z. cond (eqb x e) (get_or left z 0 - 1) (get_or left e 0)) (eqb→eq x e t))
     (λ t. rw (false_of (eqb x e) t))))
-    ∙ sym (turns_taken start.args.houses x (turns_by start.args.turns) low)
+    ∙ sym (turns_taken c.args.houses x (turns_by c.args.turns) low)
 
-pub take-turn-spec : {M : Type 1} → statement M
-take-turn-spec =
+pub take_turn_spec : {M : Type 1} → statement M
+take_turn_spec =
     tie.close
     (tie.spec
     returns

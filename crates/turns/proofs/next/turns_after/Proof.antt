@@ -5,16 +5,16 @@ use Rattle.anchored.specs.Houses.{turns_after}
 use Rattle.turns.proofs.next.turns_after.Statement.{statement}
 use Rattle.turns.proofs.next.turns_after.Tie as tie
 
-add_turn : tie.Need-overflow-add-turn
+add_turn : tie.Need-overflow_add-turn
 add_turn c = search rules
 
-returns : tie.Need-returns
+returns : tie.Need-returns-then-turn-houses
 unfolding turns_after
-returns c = rw (lt-ltb _ _ c.if1.true)
+returns c = rw (lt-ltb _ _ c.if-turn-houses.true)
 
-returns-2 : tie.Need-returns-2
+returns-2 : tie.Need-returns
 unfolding turns_after
-returns-2 c = rw (le-ltb _ _ c.if1.false)
+returns-2 c = rw (le-ltb _ _ c.if-turn-houses.false)
 
-pub turns-after-spec : {M : Type 1} → statement M
-turns-after-spec = tie.close (tie.spec add_turn returns returns-2)
+pub turns_after_spec : {M : Type 1} → statement M
+turns_after_spec = tie.close (tie.spec add_turn returns returns-2)
