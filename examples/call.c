@@ -50,10 +50,7 @@ static void check(void)
     tell("check of five links", planner_check(starts, 5, links, 5));
 }
 
-/*
- * The level sheet with rider 0 retained, the patches, and what rests on the sheet: how many 3 lifts at most, and whom he lifts; whom 2
- * takes down. Of rider 0, who is retained already, there is no ceiling.
- */
+/* The level sheet with rider 0 retained, the patches, and what rests on the sheet: whom 3 lifts, whom 2 takes down. */
 static void sheet(void)
 {
     uint16_t levels[4] = {0}, layers[4] = {0}, components[4] = {0}, of[4] = {0}, sizes[4] = {0}, lowest[4] = {0};
@@ -64,8 +61,6 @@ static void sheet(void)
     numbers("components", components, 4);
     tell("list_components", planner_list_components(starts, 5, links, 6, retained, 4, of, 4, sizes, 4, lowest, 4));
     numbers("level, size, number", (uint16_t[]){of[0], sizes[0], lowest[0]}, 3);
-    tell("ceiling", planner_ceiling(starts, 5, links, 6, retained, 4, levels, 4, layers, 4, 3));
-    tell("ceiling of rider 0", planner_ceiling(starts, 5, links, 6, retained, 4, levels, 4, layers, 4, 0));
     tell("followers", planner_followers(starts, 5, links, 6, retained, 4, levels, 4, layers, 4, 3, marks, 4));
     bytes("marks", marks, 4);
     tell("collapse", planner_collapse(starts, 5, links, 6, retained, 4, levels, 4, layers, 4, 2, marks, 4));

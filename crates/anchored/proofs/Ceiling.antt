@@ -7,19 +7,19 @@ use mathlib.Core.Bool.{Bool, true, false, not, cond, ◌&&◌, ◌||◌}
 use mathlib.Core.List.{List, [], ◌∷◌}
 use lib.IntN.{pos, ◌-ℤ◌}
 use lib.Signed.{le_z}
-use lib.Dec.{T, eqb, eqb→eq, eqb_refl, leb→le, le→leb, T_not, not_T}
+use lib.Dec.{T, ltb, eqb, eqb→eq, eqb_refl, leb→le, le→leb, T_not, not_T}
 use native.Mathlib.Omega.{arith}
 use Rattle.finite.specs.Count.{In, count, sum, below}
 use Rattle.finite.specs.Search.{any, member}
 use Rattle.finite.specs.Sets.{has}
-use Rattle.finite.proofs.Tests.{and_i, and_l, and_r, or_l, or_r, or-e, false_of, eqb_of}
+use Rattle.finite.proofs.Tests.{and_i, and_l, and_r, or_l, or_r, or-e, same, false_of, eqb_of}
 use Rattle.finite.proofs.Count.{sum_cong, sum_mono, in_below, distinct-below, count-below-le, count_mono, count_none, count_off}
 use Rattle.finite.proofs.Search.{any_i, any-e, member-e, count-any}
 use Rattle.finite.proofs.Pairs.{strong}
 use Rattle.finite.proofs.Signed.{le_z_chains, sub_mono}
 use Rattle.anchored.specs.Graph.{Graph, Simple}
 use Rattle.anchored.specs.Core.{level, layer}
-use Rattle.anchored.specs.Followers.{follows, followers, first_step, Walk, start, step, candidates, reached}
+use Rattle.anchored.specs.Followers.{follows, followers, first_step, Walk, start, step, onward, candidates, reached}
 use Rattle.anchored.specs.Yield.{climb, net, choice_of}
 use Rattle.anchored.specs.Ceiling.{further_step, sum_steps, capped, ceiling_within, ceiling_from, ceiling, walks_within, walks, outdone}
 use Rattle.anchored.proofs.Core.{layer-le}
@@ -50,6 +50,29 @@ module _ (G : Graph) (A : ℕ → Bool) (u w : ℕ) where
   pub further_i : T (not (A w)) → level G A u ≡ level G A w → layer G A u < layer G A w → T (further_step G A u w)
   unfolding further_step
   further_i a e h = and_i alike _ (and_i (not (A w)) _ a (eqb_of (level G A u) (level G A w) e)) (le→leb (suc (layer G A u)) (layer G A w) h)
+
+-- who is found by a search is a further step from somebody whom it has reached
+pub onward-further : (G : Graph) (A : ℕ → Bool) (s : List Bool) (v : ℕ) → onward G A s v ≡ any (λ u. has s u && further_step G A u v) (G.neighbors v)
+unfolding onward
+onward-further G A s v = same (onward G A s v) (any found (G.neighbors v))
+    (λ t.
+    let r = any-e near (G.neighbors v) (and_r (not (A v)) _ t) in
+    let u = r.0 in
+    let p = and_l (has s u && eqb (level G A u) (level G A v)) _ r.2 in
+    let step = further_i G A u v (and_l (not (A v)) _ t) (eqb→eq (level G A u) (level G A v) (and_r (has s u) _ p)) (leb→le (suc (layer G A u)) (layer G A v) (and_r (has s u && eqb (level G A u) (level G A v)) _ r.2)) in
+    any_i found (G.neighbors v) u r.1 (and_i (has s u) _ (and_l (has s u) _ p) step))
+    (λ t.
+    let r = any-e found (G.neighbors v) t in
+    let u = r.0 in
+    let f = and_r (has s u) _ r.2 in
+    let beside = and_i (has s u) _ (and_l (has s u) _ r.2) (eqb_of (level G A u) (level G A v) (further-level G A u v f)) in
+    and_i (not (A v)) _ (further-free G A u v f) (any_i near (G.neighbors v) u r.1 (and_i (has s u && eqb (level G A u) (level G A v)) _ beside (le→leb (suc (layer G A u)) (layer G A v) (further-layer G A u v f)))))
+  where
+    near : ℕ → Bool
+    near u = has s u && eqb (level G A u) (level G A v) && ltb (layer G A u) (layer G A v)
+
+    found : ℕ → Bool
+    found u = has s u && further_step G A u v
 
 -- ---- sums over steps
 

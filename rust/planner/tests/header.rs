@@ -1,11 +1,12 @@
-//! include/planner.h from C: examples/call.c is compiled with the C compiler that links Rust's programs, linked with the archive, and run.
+//! include/planner.h from C: examples/call.c and examples/ceiling.c are compiled with the C compiler that links Rust's programs, linked with
+//! the archive, and run.
 
 mod source;
 
 use std::path::Path;
 use std::process::{Command, Output};
 
-/// What the program prints: of an answer the number, its values and the size of the table; under it what it filled.
+/// What call.c prints: of an answer the number, its values and the size of the table; under it what it filled.
 const PRINTED: &str = "\
 check: 0 0 0, edges 3, max_degree 2
 check of five links: 4 4 0, edges 0, max_degree 0
@@ -15,8 +16,6 @@ work: 0 0 0, edges 3, max_degree 2
   components 65535 1 1 1
 list_components: 0 1 0, edges 3, max_degree 2
   level, size, number 1 3 1
-ceiling: 0 2 0, edges 3, max_degree 2
-ceiling of rider 0: 16 0 0, edges 0, max_degree 0
 followers: 0 2 2, edges 3, max_degree 2
   marks 0 2 2 0
 collapse: 0 0 0, edges 3, max_degree 2
@@ -49,17 +48,33 @@ text_to_sheet: 0 50
 (round 01 (retain 0000) (marks ..) (redone 0000))
 ";
 
+/// What ceiling.c prints, an answer a line.
+const PRINTED_OF_CEILINGS: &str = "\
+ceiling: 0 2 0, edges 3, max_degree 2
+ceiling of rider 0: 16 0 0, edges 0, max_degree 0
+";
+
 fn done(command: &mut Command) -> Output {
     let output = command.output().unwrap_or_else(|e| panic!("{command:?}: {e}"));
     assert!(output.status.success(), "{command:?}: {}", String::from_utf8_lossy(&output.stderr));
     output
 }
 
+/// What the example of that name prints.
+fn printed(name: &str) -> String {
+    let (root, program) = (source::root(), Path::new(env!("CARGO_TARGET_TMPDIR")).join(name));
+    let mut compiler = Command::new("cc");
+    compiler.args(["-std=c99", "-Wall", "-Wextra", "-Wpedantic", "-Werror", "-Iinclude"]).arg(format!("examples/{name}.c"));
+    done(compiler.arg("target/staticlib/libplanner_c.a").arg("-o").arg(&program).current_dir(root));
+    String::from_utf8(done(&mut Command::new(program)).stdout).unwrap()
+}
+
 #[test]
 fn a_program_in_c() {
-    let (root, program) = (source::root(), Path::new(env!("CARGO_TARGET_TMPDIR")).join("call"));
-    let mut compiler = Command::new("cc");
-    compiler.args(["-std=c99", "-Wall", "-Wextra", "-Wpedantic", "-Werror", "-Iinclude", "examples/call.c"]);
-    done(compiler.arg("target/staticlib/libplanner_c.a").arg("-o").arg(&program).current_dir(root));
-    assert_eq!(String::from_utf8(done(&mut Command::new(program)).stdout).unwrap(), PRINTED);
+    assert_eq!(printed("call"), PRINTED);
+}
+
+#[test]
+fn ceilings_in_c() {
+    assert_eq!(printed("ceiling"), PRINTED_OF_CEILINGS);
 }

@@ -15,37 +15,36 @@ use Rattle.ceiling.proofs.ceiling.Tie as tie
 same-ceiling : {c d : ℕ} {size given : Size} → c ≡ d → size ≡ given → Ceiling c size ≡ Ceiling d given
 same-ceiling p q = cc
 
-told : (c : tie.After-enum-told) → let args = c.before.before.before.before.before.before.before.before.args in
+told : (c : tie.In-Passed) → let args = c.args in
     ceiling_of args.starts.now args.links.now args.anchored.now args.levels.now args.layers.now args.x ≡ Passed
-told c = sym c.before.before.test-ceiling.ensures ∙ c.enum_told.given.1
+told c = sym c.test_ceiling-tested.ensures ∙ c.in-Passed.is
 
-test-ceiling-requires : tie.Need-test-ceiling-requires
+test-ceiling-requires : tie.Need-test_ceiling-tested-requires
 test-ceiling-requires c κs = search rules
 
-enum-known-tested : tie.Need-enum-known-tested
+enum-known-tested : tie.Need-enum_known-tested
 enum-known-tested c = search rules
 
-enum_told : tie.Need-enum-told
+enum_told : tie.Need-enum_told-1
 enum_told c = search rules
 
-measure-requires : tie.Need-measure-requires
+measure-requires : tie.Need-measure-size-requires
 measure-requires c κs = (ceiling-sound _ _ _ _ _ _ (told c)).0.table
 
-bound-requires : tie.Need-bound-requires
+bound-requires : tie.Need-bound-bound-requires
 bound-requires c κs =
     let promised = ceiling-sound _ _ _ _ _ _ (told c.before) in
     (accepted_sheet promised.0 promised.1, promised.2)
 
-returns : tie.Need-returns
-returns c = sym (handed _ _ (sym c.before.before.before.test-ceiling.ensures ∙ c.before.tested.given.1))
+returns : tie.Need-returns-in-Refused
+returns c = sym (handed _ _ (sym c.test_ceiling-tested.ensures ∙ c.in-Refused.is))
 
-returns-2 : tie.Need-returns-2
+returns-2 : tie.Need-returns-in-Passed
 returns-2 c =
-    let measured = c.before in
-    same-ceiling c.bound.ensures measured.measure.ensures ∙ sym (cleared _ _ (told measured.before))
+    same-ceiling c.bound-bound.ensures c.measure-size.ensures ∙ sym (cleared _ _ (told c.before.before))
 
-pub ceiling-spec : {M : Type 1} → statement M
-ceiling-spec =
+pub ceiling_spec : {M : Type 1} → statement M
+ceiling_spec =
     tie.close
     (tie.spec
     test-ceiling-requires

@@ -10,37 +10,37 @@ use borrow.Author.Rules.{rules}
 use Rattle.ceiling.proofs.test_start.Statement.{statement}
 use Rattle.ceiling.proofs.test_start.Tie as tie
 
-abbrev entry : tie.After-test-vertex → tie.Start
+abbrev entry : tie.After-test_vertex-tested → tie.Start
 entry c = c.before.before.before.before.before.before
 
-told : (c : tie.After-enum-told) → let args = (entry c.before.before).args in
+told : (c : tie.In-Passed) → let args = (entry c.before).args in
     vertex_of args.starts.now args.links.now args.anchored.now args.levels.now args.layers.now args.x ≡ Passed
-told c = sym c.before.before.test-vertex.ensures ∙ c.enum_told.given.1
+told c = sym c.test_vertex-tested.ensures ∙ c.in-Passed.is
 
-test-vertex-requires : tie.Need-test-vertex-requires
-test-vertex-requires c κs = c.before.before.before.before.before.requires
+test-vertex-requires : tie.Need-test_vertex-tested-requires
+test-vertex-requires c κs = c.requires
 
-enum-known-tested : tie.Need-enum-known-tested
+enum-known-tested : tie.Need-enum_known-tested
 enum-known-tested c = search rules
 
-enum_told : tie.Need-enum-told
+enum_told : tie.Need-enum_told-1
 enum_told c = search rules
 
-test-free-requires : tie.Need-test-free-requires
+test-free-requires : tie.Need-test_free-requires
 test-free-requires c κs =
-    let given = (entry c.before.before).requires in
+    let given = (entry c.before).requires in
     omega (arith, (vertex-sound _ _ _ _ _ _ given.table (told c)).1, given.long)
 
-returns : tie.Need-returns
+returns : tie.Need-returns-in-Refused
 unfolding start_of
-returns c = sym (handed _ _ (sym c.before.before.before.test-vertex.ensures ∙ c.before.tested.given.1))
+returns c = sym (handed _ _ (sym c.test_vertex-tested.ensures ∙ c.in-Refused.is))
 
-returns-2 : tie.Need-returns-2
+returns-2 : tie.Need-returns-in-Passed
 unfolding start_of
-returns-2 c = c.test-free.ensures ∙ sym (cleared _ _ (told c.before))
+returns-2 c = c.test_free.ensures ∙ sym (cleared _ _ (told c.before))
 
-pub test-start-spec : {M : Type 1} → statement M
-test-start-spec =
+pub test_start_spec : {M : Type 1} → statement M
+test_start_spec =
     tie.close
     (tie.spec
     test-vertex-requires
