@@ -18,7 +18,7 @@ enum RiderLines {
 }
 
 // What the text says beside its lists. `beyond` is the first retained number of n or more, or NONE, 65,536.
-#[derive(Drop)]
+#[derive(Clone, Copy)]
 pub struct Summary {
     pub riders: u16,
     pub links: usize,

@@ -4,21 +4,21 @@ use borrow.Author.Rules.{rules}
 use Rattle.numbers.proofs.of_answered.Statement.{statement}
 use Rattle.numbers.proofs.of_answered.Tie as tie
 
-enum-known-answered : tie.Need-enum-known-answered
+enum-known-answered : tie.Need-enum_known-answered
 enum-known-answered c = search rules
 
-enum-known-answered-2 : tie.Need-enum-known-answered-2
+enum-known-answered-2 : tie.Need-enum_known-answered-in-Refused-1
 enum-known-answered-2 c = search rules
 
-cast-t6 : tie.Need-overflow-cast-t6
+cast-t6 : tie.Need-overflow_cast-result
 cast-t6 c = search rules
 
-returns : tie.Need-returns
-returns c = sym (ap answered_as c.before.answered.given.1)
+returns : tie.Need-returns-in-Sheet
+returns c = sym (ap answered_as c.in-Sheet.is)
 
-returns-2 : tie.Need-returns-2
-returns-2 c = sym (ap answered_as c.before.before.answered2.given.1)
+returns-2 : tie.Need-returns-in-Refused
+returns-2 c = sym (ap answered_as c.in-Refused.is)
 
-pub of-answered-spec : {M : Type 1} → statement M
-of-answered-spec =
+pub of_answered_spec : {M : Type 1} → statement M
+of_answered_spec =
     tie.close (tie.spec enum-known-answered enum-known-answered-2 cast-t6 returns returns-2)

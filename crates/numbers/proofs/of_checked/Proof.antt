@@ -4,25 +4,25 @@ use borrow.Author.Rules.{rules}
 use Rattle.numbers.proofs.of_checked.Statement.{statement}
 use Rattle.numbers.proofs.of_checked.Tie as tie
 
-enum-known-checked : tie.Need-enum-known-checked
+enum-known-checked : tie.Need-enum_known-checked
 enum-known-checked c = search rules
 
 accepted-requires : tie.Need-accepted-requires
 accepted-requires c κs = search rules
 
-enum-known-checked-2 : tie.Need-enum-known-checked-2
+enum-known-checked-2 : tie.Need-enum_known-checked-in-Refused-1
 enum-known-checked-2 c = search rules
 
 refused-requires : tie.Need-refused-requires
 refused-requires c κs = search rules
 
-returns : tie.Need-returns
-returns c = c.accepted.ensures ∙ sym (ap checked_as c.before.before.checked.given.1)
+returns : tie.Need-returns-in-Sound
+returns c = c.accepted.ensures ∙ sym (ap checked_as c.in-Sound.is)
 
-returns-2 : tie.Need-returns-2
-returns-2 c = c.refused.ensures ∙ sym (ap checked_as c.before.before.checked2.given.1)
+returns-2 : tie.Need-returns-in-Refused
+returns-2 c = c.refused.ensures ∙ sym (ap checked_as c.in-Refused.is)
 
-pub of-checked-spec : {M : Type 1} → statement M
-of-checked-spec =
+pub of_checked_spec : {M : Type 1} → statement M
+of_checked_spec =
     tie.close
     (tie.spec enum-known-checked accepted-requires enum-known-checked-2 refused-requires returns returns-2)

@@ -4,25 +4,25 @@ use borrow.Author.Rules.{rules}
 use Rattle.numbers.proofs.of_ran.Statement.{statement}
 use Rattle.numbers.proofs.of_ran.Tie as tie
 
-enum-known-ran : tie.Need-enum-known-ran
+enum-known-ran : tie.Need-enum_known-ran
 enum-known-ran c = search rules
 
 accepted-requires : tie.Need-accepted-requires
 accepted-requires c κs = search rules
 
-enum-known-ran-2 : tie.Need-enum-known-ran-2
+enum-known-ran-2 : tie.Need-enum_known-ran-in-Refused-1
 enum-known-ran-2 c = search rules
 
 refused-requires : tie.Need-refused-requires
 refused-requires c κs = search rules
 
-returns : tie.Need-returns
-returns c = c.accepted.ensures ∙ sym (ap ran_as c.before.before.ran.given.1)
+returns : tie.Need-returns-in-Served
+returns c = c.accepted.ensures ∙ sym (ap ran_as c.in-Served.is)
 
-returns-2 : tie.Need-returns-2
-returns-2 c = c.refused.ensures ∙ sym (ap ran_as c.before.before.ran2.given.1)
+returns-2 : tie.Need-returns-in-Refused
+returns-2 c = c.refused.ensures ∙ sym (ap ran_as c.in-Refused.is)
 
-pub of-ran-spec : {M : Type 1} → statement M
-of-ran-spec =
+pub of_ran_spec : {M : Type 1} → statement M
+of_ran_spec =
     tie.close
     (tie.spec enum-known-ran accepted-requires enum-known-ran-2 refused-requires returns returns-2)

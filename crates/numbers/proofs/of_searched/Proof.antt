@@ -4,25 +4,25 @@ use borrow.Author.Rules.{rules}
 use Rattle.numbers.proofs.of_searched.Statement.{statement}
 use Rattle.numbers.proofs.of_searched.Tie as tie
 
-enum-known-searched : tie.Need-enum-known-searched
+enum-known-searched : tie.Need-enum_known-searched
 enum-known-searched c = search rules
 
 accepted-requires : tie.Need-accepted-requires
 accepted-requires c κs = search rules
 
-enum-known-searched-2 : tie.Need-enum-known-searched-2
+enum-known-searched-2 : tie.Need-enum_known-searched-in-Refused-1
 enum-known-searched-2 c = search rules
 
 refused-requires : tie.Need-refused-requires
 refused-requires c κs = search rules
 
-returns : tie.Need-returns
-returns c = c.accepted.ensures ∙ sym (ap searched_as c.before.before.searched.given.1)
+returns : tie.Need-returns-in-Found
+returns c = c.accepted.ensures ∙ sym (ap searched_as c.in-Found.is)
 
-returns-2 : tie.Need-returns-2
-returns-2 c = c.refused.ensures ∙ sym (ap searched_as c.before.before.searched2.given.1)
+returns-2 : tie.Need-returns-in-Refused
+returns-2 c = c.refused.ensures ∙ sym (ap searched_as c.in-Refused.is)
 
-pub of-searched-spec : {M : Type 1} → statement M
-of-searched-spec =
+pub of_searched_spec : {M : Type 1} → statement M
+of_searched_spec =
     tie.close
     (tie.spec enum-known-searched accepted-requires enum-known-searched-2 refused-requires returns returns-2)

@@ -14,59 +14,55 @@ use Rattle.answer.proofs.call.admit.Tie as tie
 refused-requires : tie.Need-refused-requires
 refused-requires c κs = search rules
 
-returns : tie.Need-returns
+returns : tie.Need-returns-then-asked-gt1024
 unfolding asked_of
-returns c = simp (c.refused.ensures, lt-ltb _ _ c.before.if1.true)
+returns c = simp (c.refused.ensures, lt-ltb _ _ c.if-asked-gt1024.true)
 
-refused-requires-2 : tie.Need-refused-requires-2
+refused-requires-2 : tie.Need-refused-requires-then-asked-gt16384
 refused-requires-2 c κs = search rules
 
-returns-2 : tie.Need-returns-2
+returns-2 : tie.Need-returns-then-asked-gt16384
 unfolding asked_of
-returns-2 c = simp (c.refused2.ensures, le-ltb _ _ c.before.before.before.if1.false, lt-ltb _ _ c.before.if2.true)
+returns-2 c = simp (c.refused-then-asked-gt16384.ensures, le-ltb _ _ c.if-asked-gt1024.false, lt-ltb _ _ c.if-asked-gt16384.true)
 
-cast-n : tie.Need-overflow-cast-n
+cast-n : tie.Need-overflow_cast-n
 cast-n c = search rules
 
-add-test-table : tie.Need-overflow-add-test-table
+add-test-table : tie.Need-overflow_add-n
 add-test-table c = search rules
 
-slice-aggregate-test-table : tie.Need-slice-aggregate-test-table
+slice-aggregate-test-table : tie.Need-slice_bounds-test_table-end
 slice-aggregate-test-table c =
-    let start = c.before.before.before.before.before.before.before.before in
-    sym (length-take-le (start.args.asked.riders + 1) start.args.starts.now (omega (arith, start.requires.0, c.before.before.before.before.if1.false)))
+    sym (length-take-le (c.args.asked.riders + 1) c.args.starts.now (omega (arith, c.requires.0, c.if-asked-gt1024.false)))
 
-slice-aggregate-test-table-2 : tie.Need-slice-aggregate-test-table-2
+slice-aggregate-test-table-2 : tie.Need-slice_bounds-test_table-end-2
 slice-aggregate-test-table-2 c =
-    let start = c.before.before.before.before.before.before.before.before.before in
-    sym (length-take-le start.args.asked.links start.args.links.now (omega (arith, start.requires.1, c.before.before.before.if2.false)))
+    sym (length-take-le c.args.asked.links c.args.links.now (omega (arith, c.requires.1, c.if-asked-gt16384.false)))
 
-test-table-requires : tie.Need-test-table-requires
+test-table-requires : tie.Need-test_table-tested-requires
 test-table-requires c κs = search rules
 
-enum-known-tested : tie.Need-enum-known-tested
+enum-known-tested : tie.Need-enum_known-tested
 enum-known-tested c = search rules
 
-enum_told : tie.Need-enum-told
+enum_told : tie.Need-enum_told-1
 enum_told c = search rules
 
-test-room-requires : tie.Need-test-room-requires
+test-room-requires : tie.Need-test_room-requires
 test-room-requires c κs = search rules
 
-returns-3 : tie.Need-returns-3
+returns-3 : tie.Need-returns-in-Refused
 returns-3 c =
-    let few = c.before.before.before.before.before.before.before in
-    let refused = sym c.before.before.before.test_table.ensures ∙ c.before.tested.given.1 in
-    sym (asked_tabled _ _ _ _ few.before.before.if1.false few.if2.false ∙ handed _ _ refused)
+    let refused = sym c.test_table-tested.ensures ∙ c.in-Refused.is in
+    sym (asked_tabled _ _ _ _ c.if-asked-gt1024.false c.if-asked-gt16384.false ∙ handed _ _ refused)
 
-returns-4 : tie.Need-returns-4
+returns-4 : tie.Need-returns-in-Passed
 returns-4 c =
-    let few = c.before.before.before.before.before.before.before in
-    let passed = sym c.before.before.before.test_table.ensures ∙ c.before.enum_told.given.1 in
-    c.test-room.ensures ∙ sym (asked_tabled _ _ _ _ few.before.before.if1.false few.if2.false ∙ cleared _ _ passed)
+    let passed = sym c.test_table-tested.ensures ∙ c.in-Passed.is in
+    c.test_room.ensures ∙ sym (asked_tabled _ _ _ _ c.if-asked-gt1024.false c.if-asked-gt16384.false ∙ cleared _ _ passed)
 
-pub admit-spec : {M : Type 1} → statement M
-admit-spec =
+pub admit_spec : {M : Type 1} → statement M
+admit_spec =
     tie.close
     (tie.spec
     refused-requires

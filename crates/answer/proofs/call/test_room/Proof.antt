@@ -9,44 +9,42 @@ use Rattle.answer.proofs.call.test_room.Tie as tie
 refused-requires : tie.Need-refused-requires
 refused-requires c κs = search rules
 
-returns : tie.Need-returns
-returns c = simp (c.refused.ensures, lt-ltb _ _ c.before.if1.true)
+returns : tie.Need-returns-then-asked-gt60
+returns c = simp (c.refused.ensures, lt-ltb _ _ c.if-asked-gt60.true)
 
-cast-if2 : tie.Need-overflow-cast-if2
+cast-if2 : tie.Need-overflow_cast-asked
 cast-if2 c = search rules
 
-cast-if2-2 : tie.Need-overflow-cast-if2-2
+cast-if2-2 : tie.Need-overflow_cast-asked-2
 cast-if2-2 c = search rules
 
-add-if2 : tie.Need-overflow-add-if2
+add-if2 : tie.Need-overflow_add-asked
 add-if2 c = search rules
 
-mul-if2 : tie.Need-overflow-mul-if2
+mul-if2 : tie.Need-overflow_mul-asked
 mul-if2 c =
-    let asked = c.before.before.before.before.args.asked in
-    omega (arith, size_small asked.rounds asked.riders c.before.before.if1.false (omega arith))
+    let asked = c.args.asked in
+    omega (arith, size_small asked.rounds asked.riders c.if-asked-gt60.false (omega arith))
 
-refused-requires-2 : tie.Need-refused-requires-2
+refused-requires-2 : tie.Need-refused-requires-then-room-asked
 refused-requires-2 c κs = search rules
 
-returns-2 : tie.Need-returns-2
-returns-2 c = simp (c.refused2.ensures, le-ltb _ _ c.before.before.before.before.if1.false, lt-ltb _ _ c.before.if2.true)
+returns-2 : tie.Need-returns-then-room-asked
+returns-2 c = simp (c.refused-then-room-asked.ensures, le-ltb _ _ c.if-asked-gt60.false, lt-ltb _ _ c.if-room-asked.true)
 
-refused-requires-3 : tie.Need-refused-requires-3
+refused-requires-3 : tie.Need-refused-requires-then-asked-lt-NONE
 refused-requires-3 c κs = search rules
 
-returns-3 : tie.Need-returns-3
+returns-3 : tie.Need-returns-then-asked-lt-NONE
 returns-3 c =
-    let past = c.before.before.before in
-    simp (c.refused3.ensures, le-ltb _ _ past.before.before.before.if1.false, le-ltb _ _ past.if2.false, lt-ltb _ _ c.before.if3.true)
+    simp (c.refused-then-asked-lt-NONE.ensures, le-ltb _ _ c.if-asked-gt60.false, le-ltb _ _ c.if-room-asked.false, lt-ltb _ _ c.if-asked-lt-NONE.true)
 
-returns-4 : tie.Need-returns-4
+returns-4 : tie.Need-returns
 returns-4 c =
-    let past = c.before.before in
-    simp (le-ltb _ _ past.before.before.before.if1.false, le-ltb _ _ past.if2.false, le-ltb _ _ c.if3.false)
+    simp (le-ltb _ _ c.if-asked-gt60.false, le-ltb _ _ c.if-room-asked.false, le-ltb _ _ c.if-asked-lt-NONE.false)
 
-pub test-room-spec : {M : Type 1} → statement M
-test-room-spec =
+pub test_room_spec : {M : Type 1} → statement M
+test_room_spec =
     tie.close
     (tie.spec
     refused-requires

@@ -12,42 +12,41 @@ use borrow.Author.Rules.{rules}
 use Rattle.answer.proofs.call.text_to_sheet.Statement.{statement}
 use Rattle.answer.proofs.call.text_to_sheet.Tie as tie
 
-returns : tie.Need-returns
+returns : tie.Need-returns-then-text-gt65536
 unfolding answer_of
-returns c = let refused = text_long _ _ c.if1.true in (sym (handed _ _ refused), sym (handed _ _ refused))
+returns c = let refused = text_long _ _ c.if-text-gt65536.true in (sym (handed _ _ refused), sym (handed _ _ refused))
 
-slice-aggregate-read-text : tie.Need-slice-aggregate-read-text
+slice-aggregate-read-text : tie.Need-slice_bounds-read_text-end
 slice-aggregate-read-text c = search rules
 
-slice-aggregate-read-text-2 : tie.Need-slice-aggregate-read-text-2
+slice-aggregate-read-text-2 : tie.Need-slice_bounds-read_text-end-2
 slice-aggregate-read-text-2 c = search rules
 
-slice-aggregate-read-text-3 : tie.Need-slice-aggregate-read-text-3
+slice-aggregate-read-text-3 : tie.Need-slice_bounds-read_text-end-3
 slice-aggregate-read-text-3 c = search rules
 
-read-text-requires : tie.Need-read-text-requires
+read-text-requires : tie.Need-read_text-reading-requires
 read-text-requires c κs = search rules
 
-enum-known-reading : tie.Need-enum-known-reading
+enum-known-reading : tie.Need-enum_known-reading
 enum-known-reading c = search rules
 
-enum-known-reading-2 : tie.Need-enum-known-reading-2
+enum-known-reading-2 : tie.Need-enum_known-reading-in-Read-1
 enum-known-reading-2 c = search rules
 
-slice-aggregate-answer-read : tie.Need-slice-aggregate-answer-read
+slice-aggregate-answer-read : tie.Need-slice_bounds-answer_read-end
 slice-aggregate-answer-read c = search rules
 
-slice-aggregate-answer-read-2 : tie.Need-slice-aggregate-answer-read-2
+slice-aggregate-answer-read-2 : tie.Need-slice_bounds-answer_read-end-in-Read
 slice-aggregate-answer-read-2 c = search rules
 
-slice-aggregate-answer-read-3 : tie.Need-slice-aggregate-answer-read-3
+slice-aggregate-answer-read-3 : tie.Need-slice_bounds-answer_read-end-in-Read-2
 slice-aggregate-answer-read-3 c = search rules
 
-answer-read-requires : tie.Need-answer-read-requires
+answer-read-requires : tie.Need-answer_read-requires
 answer-read-requires c κs =
-    let called = c.before.before.before.before.before.before.before.before.before.before in
-    let t = called.before.before.before.before.before.before.before.args.text.now in
-    let arrays = called.read-text.ensures.1 in (
+    let t = c.args.text.now in
+    let arrays = c.read_text-reading.ensures.1 in (
       omega (arith, length-read 1025 (starts_read t) arrays.0),
       (
         omega (arith, length-read 16384 (links_read t) arrays.1.0),
@@ -55,34 +54,30 @@ answer-read-requires c κs =
       ),
     )
 
-returns-2 : tie.Need-returns-2
+returns-2 : tie.Need-returns-in-Departs
 unfolding answer_of
 returns-2 c =
-    let called = c.before.before.before.before.before.before in
-    let departs = sym called.read-text.ensures.0 ∙ c.before.reading.given.1 in
-    let refused = text_departs _ _ called.before.before.before.before.if1.false departs in
+    let departs = sym c.read_text-reading.ensures.0 ∙ c.in-Departs.is in
+    let refused = text_departs _ _ c.if-text-gt65536.false departs in
     (sym (handed _ _ refused), sym (handed _ _ refused))
 
-same_length : tie.Need-same-length
+same_length : tie.Need-shape_of-sheet
 same_length c = search rules
 
-returns-3 : tie.Need-returns-3
+returns-3 : tie.Need-returns-in-Read
 unfolding answer_of
 returns-3 c =
-    let reading = c.before.before.before.before.before.before.before.before in
-    let called = reading.before.before.before.before.before in
-    let start = called.before.before.before.before.before.before.before in
-    let arrays = called.read-text.ensures.1 in
-    let whole = sym called.read-text.ensures.0 ∙ reading.reading2.given.1 in
-    let short = called.before.before.before.before.if1.false in
-    let answered = c.before.before.answer-read.ensures in
-    let bytes = start.args.sheet.now in (
+    let arrays = c.read_text-reading.ensures.1 in
+    let whole = sym c.read_text-reading.ensures.0 ∙ c.in-Read.is in
+    let short = c.if-text-gt65536.false in
+    let answered = c.answer_read.ensures in
+    let bytes = c.args.sheet.now in (
       answered.0 ∙ as_read _ whole arrays.0 arrays.1.0 arrays.1.1 (length bytes) short (λ sheet. Sheet (length sheet)) Refused,
       answered.1 ∙ as_read _ whole arrays.0 arrays.1.0 arrays.1.1 (length bytes) short (λ sheet. front sheet bytes) (λ x. bytes),
     )
 
-pub text-to-sheet-spec : {M : Type 1} → statement M
-text-to-sheet-spec =
+pub text_to_sheet_spec : {M : Type 1} → statement M
+text_to_sheet_spec =
     tie.close
     (tie.spec
     returns

@@ -107,8 +107,8 @@ same-length-14 c = (called c).write.auto.redone
 returns-2 : tie.Need-returns-in-Passed
 returns-2 c =
     let measured = (called c).before.before.before.before.before.before.before.before.before.before.before.before.before in
-    let passed = told measured.before.before.before in
-    ((ap Served measured.measure-size.ensures ∙ sym (cleared _ _ passed), (called c).write.ensures ∙ sym (cleared _ _ passed)), λ size e. session_claim _ _ _ _ (lent (start measured.before.before.before)) refl refl passed)
+    let passed = told measured.before in
+    ((ap Served measured.measure-size.ensures ∙ sym (cleared _ _ passed), (called c).write.ensures ∙ sym (cleared _ _ passed)), λ size e. session_claim _ _ _ _ (lent (start measured.before)) refl refl passed)
 
 pub run_spec : {M : Type 1} → statement M
 run_spec =

@@ -121,14 +121,14 @@ loop-again c =
     let taken = at.loop-i-test.true in (
       omega (arith, taken),
       serving_more at.loop-i.invariant.1 (omega (arith, taken, pre.1.0)) (omega (arith, taken, pre.1.1.0)) (omega (arith, taken, pre.1.1.1))
-          call.turn-stepped.kept.0 call.turn-stepped.kept.1.0 call.turn-stepped.ensures,
+          call.turn-stepped.auto.starts call.turn-stepped.auto.links call.turn-stepped.ensures,
     )
 
 same_length : tie.Need-shape_of-starts invariant-loop-i decreases-loop-i
 same_length c = c.loop-i.invariant.1.starts_long
 
 same-length-2 : tie.Need-shape_of-links invariant-loop-i decreases-loop-i
-same-length-2 c = c.loop-i.invariant.1.links_long ∙ (zeroed c.before).zero_behind.kept.1.0
+same-length-2 c = c.loop-i.invariant.1.links_long ∙ (zeroed c.before).zero_behind.auto.links
 
 same-length-3 : tie.Need-shape_of-status invariant-loop-i decreases-loop-i
 same-length-3 c = c.loop-i.invariant.1.statuses.long

@@ -44,20 +44,20 @@ small c = (lent-sound _ _ c.requires.0.table).small
 
 serve-requires : tie.Need-serve-kept-requires
 serve-requires c κs =
-    (c.requires.0, ((fits c.before.before.before.before.before.before.before.before.before.before.before.before.before.before.before.before.before.before.before.before).status-1, ((fits c.before.before.before.before.before.before.before.before.before.before.before.before.before.before.before.before.before.before.before.before).lifted-1, (fits c.before.before.before.before.before.before.before.before.before.before.before.before.before.before.before.before.before.before.before.before).redone-1)))
+    (c.requires.0, ((fits c.before.before.before.before.before.before.before.before.before.before.before.before.before.before.before.before.before.before.before.before).status, ((fits c.before.before.before.before.before.before.before.before.before.before.before.before.before.before.before.before.before.before.before.before).lifted, (fits c.before.before.before.before.before.before.before.before.before.before.before.before.before.before.before.before.before.before.before.before).redone)))
 
 copy-sheet-requires : tie.Need-copy_sheet-requires
 copy-sheet-requires c κs =
     let entry = start c.before.before.before.before.before.before.before.before.before.before.before.before.before in
-    (omega (arith, small entry, (fits entry).levels-1), omega (arith, small entry, (fits entry).layers-1), omega (arith, small entry, (fits entry).components-1))
+    (omega (arith, small entry, (fits entry).levels), omega (arith, small entry, (fits entry).layers), omega (arith, small entry, (fits entry).components))
 
 copy-rows-requires : tie.Need-copy_rows-requires
 copy-rows-requires c κs =
     let after = served c.before.before.before.before.before.before.before.before.before.before in
     let entry = start after in
     let right = after.serve-kept.ensures.0.1.right in (
-      (omega (arith, small entry, (fits entry).anchored-1), omega (arith, small entry, (fits entry).yields-1), omega (arith, small entry, (fits entry).reached-1), omega (arith, small entry, (fits entry).stamps-1)),
-      λ v h. right-small right v (omega (arith, (fits entry).yields-1, after.serve-kept.kept.0)),
+      (omega (arith, small entry, (fits entry).anchored), omega (arith, small entry, (fits entry).yields), omega (arith, small entry, (fits entry).reached), omega (arith, small entry, (fits entry).stamps)),
+      λ v h. right-small right v (omega (arith, (fits entry).yields, after.serve-kept.auto.starts)),
     )
 
 same_length : tie.Need-shape_of-starts
@@ -105,17 +105,17 @@ returns c =
     let end = after.serve-kept.ensures in
     let table = end.0.0 in
     let keeps = end.0.1 in
-    let size = ap (λ k. k - 1) after.serve-kept.kept.0 in
+    let size = ap (λ k. k - 1) after.serve-kept.auto.starts in
     same-slices
     (table-starts table)
     (table-links table)
-    (copied_out _ _ _ _ _ rows.copy_rows.ensures.0 lent.anchored-1 (end-anchored table keeps size))
-    (copied_out _ _ _ _ _ sheet.copy_sheet.ensures.0 lent.levels-1 (end-levels table keeps size))
-    (copied_out _ _ _ _ _ sheet.copy_sheet.ensures.1.0 lent.layers-1 (end-layers table keeps size))
-    (copied_out _ _ _ _ _ sheet.copy_sheet.ensures.1.1 lent.components-1 (end-components table keeps size))
-    (copied_out _ _ _ _ _ rows.copy_rows.ensures.1.0 lent.yields-1 (end-yields table keeps size))
-    (copied_out _ _ _ _ _ rows.copy_rows.ensures.1.1.0 lent.reached-1 (end-reached table keeps size end.0.2))
-    (copied_out _ _ _ _ _ rows.copy_rows.ensures.1.1.1 lent.stamps-1 (end-stamps table keeps size))
+    (copied_out _ _ _ _ _ rows.copy_rows.ensures.0 lent.anchored (end-anchored table keeps size))
+    (copied_out _ _ _ _ _ sheet.copy_sheet.ensures.0 lent.levels (end-levels table keeps size))
+    (copied_out _ _ _ _ _ sheet.copy_sheet.ensures.1.0 lent.layers (end-layers table keeps size))
+    (copied_out _ _ _ _ _ sheet.copy_sheet.ensures.1.1 lent.components (end-components table keeps size))
+    (copied_out _ _ _ _ _ rows.copy_rows.ensures.1.0 lent.yields (end-yields table keeps size))
+    (copied_out _ _ _ _ _ rows.copy_rows.ensures.1.1.0 lent.reached (end-reached table keeps size end.0.2))
+    (copied_out _ _ _ _ _ rows.copy_rows.ensures.1.1.1 lent.stamps (end-stamps table keeps size))
     end.1.0
     end.1.1.0
     end.1.1.1
