@@ -60,6 +60,6 @@ fn a_program_in_c() {
     let (root, program) = (source::root(), Path::new(env!("CARGO_TARGET_TMPDIR")).join("call"));
     let mut compiler = Command::new("cc");
     compiler.args(["-std=c99", "-Wall", "-Wextra", "-Wpedantic", "-Werror", "-Iinclude", "examples/call.c"]);
-    done(compiler.arg("target/staticlib/libplanner_c.a").arg("-o").arg(&program).current_dir(root));
+    done(compiler.arg("crates/planner_c/out/libplanner_c.a").arg("-o").arg(&program).current_dir(root));
     assert_eq!(String::from_utf8(done(&mut Command::new(program)).stdout).unwrap(), PRINTED);
 }
