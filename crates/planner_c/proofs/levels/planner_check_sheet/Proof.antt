@@ -7,17 +7,17 @@ use borrow.Author.Rules.{rules}
 use Rattle.planner_c.proofs.levels.planner_check_sheet.Statement.{statement}
 use Rattle.planner_c.proofs.levels.planner_check_sheet.Tie as tie
 
-check-sheet-requires : tie.Need-check-sheet-requires
+check-sheet-requires : tie.Need-check_sheet-requires
 check-sheet-requires c κs = search rules
 
-of-levels-requires : tie.Need-of-levels-requires
+of-levels-requires : tie.Need-of_levels-requires
 of-levels-requires c κs = search rules
 
 returns : tie.Need-returns
 returns c =
-    let call = c.before.check-sheet in
-    let number = ap (λ r. r.number) c.of-levels.ensures ∙ number_is call.result in
-    (c.of-levels.ensures ∙ ap levels_as call.ensures.0 ∙ answer_as levels_as _ _ _, subst (Tells _ _ _ _ _) (sym number) call.ensures.1)
+    let call = c.check_sheet in
+    let number = ap (λ r. r.number) c.of_levels.ensures ∙ number_is call.result in
+    (c.of_levels.ensures ∙ ap levels_as call.ensures.0 ∙ answer_as levels_as _ _ _, subst (Tells _ _ _ _ _) (sym number) call.ensures.1)
 
-pub planner-check-sheet-spec : {M : Type 1} → statement M
-planner-check-sheet-spec = tie.close (tie.spec check-sheet-requires of-levels-requires returns)
+pub planner_check_sheet_spec : {M : Type 1} → statement M
+planner_check_sheet_spec = tie.close (tie.spec check-sheet-requires of-levels-requires returns)

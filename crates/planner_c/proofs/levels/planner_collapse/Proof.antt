@@ -8,16 +8,16 @@ use Rattle.planner_c.proofs.levels.planner_collapse.Tie as tie
 collapse-requires : tie.Need-collapse-requires
 collapse-requires c κs = search rules
 
-of-collapsed-requires : tie.Need-of-collapsed-requires
+of-collapsed-requires : tie.Need-of_collapsed-requires
 of-collapsed-requires c κs = search rules
 
-same_length : tie.Need-same-length
+same_length : tie.Need-shape_of-marks
 same_length c = search rules
 
 returns : tie.Need-returns
 returns c =
-    let w = c.before.before.before.collapse.ensures in
-    (c.of-collapsed.ensures ∙ ap collapsed_as w.0 ∙ answer_as collapsed_as _ _ _, w.1)
+    let w = c.collapse.ensures in
+    (c.of_collapsed.ensures ∙ ap collapsed_as w.0 ∙ answer_as collapsed_as _ _ _, w.1)
 
-pub planner-collapse-spec : {M : Type 1} → statement M
-planner-collapse-spec = tie.close (tie.spec collapse-requires of-collapsed-requires same_length returns)
+pub planner_collapse_spec : {M : Type 1} → statement M
+planner_collapse_spec = tie.close (tie.spec collapse-requires of-collapsed-requires same_length returns)

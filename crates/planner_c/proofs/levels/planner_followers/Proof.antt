@@ -9,18 +9,18 @@ use Rattle.planner_c.proofs.levels.planner_followers.Tie as tie
 followers-requires : tie.Need-followers-requires
 followers-requires c κs = search rules
 
-of-searched-requires : tie.Need-of-searched-requires
+of-searched-requires : tie.Need-of_searched-requires
 of-searched-requires c κs = search rules
 
-same_length : tie.Need-same-length
+same_length : tie.Need-shape_of-marks
 same_length c = search rules
 
 returns : tie.Need-returns
 unfolding followers_of
 returns c =
-    let w = c.before.before.before.followers.ensures in
-    (c.of-searched.ensures ∙ ap searched_as w.0 ∙ answer_as searched_as _ _ _, w.1)
+    let w = c.followers.ensures in
+    (c.of_searched.ensures ∙ ap searched_as w.0 ∙ answer_as searched_as _ _ _, w.1)
 
-pub planner-followers-spec : {M : Type 1} → statement M
-planner-followers-spec =
+pub planner_followers_spec : {M : Type 1} → statement M
+planner_followers_spec =
     tie.close (tie.spec followers-requires of-searched-requires same_length returns)

@@ -8,24 +8,24 @@ use Rattle.planner_c.proofs.levels.planner_work.Tie as tie
 work-requires : tie.Need-work-requires
 work-requires c κs = search rules
 
-of-worked-requires : tie.Need-of-worked-requires
+of-worked-requires : tie.Need-of_worked-requires
 of-worked-requires c κs = search rules
 
-same_length : tie.Need-same-length
+same_length : tie.Need-shape_of-levels
 same_length c = search rules
 
-same-length-2 : tie.Need-same-length-2
+same-length-2 : tie.Need-shape_of-layers
 same-length-2 c = search rules
 
-same-length-3 : tie.Need-same-length-3
+same-length-3 : tie.Need-shape_of-components
 same-length-3 c = search rules
 
 returns : tie.Need-returns
 returns c =
-    let w = c.before.before.before.before.before.before.before.work.ensures in
-    (c.of-worked.ensures ∙ ap worked_as w.0 ∙ answer_as worked_as _ _ _, w.1, w.2, w.3)
+    let w = c.work.ensures in
+    (c.of_worked.ensures ∙ ap worked_as w.0 ∙ answer_as worked_as _ _ _, w.1, w.2, w.3)
 
-pub planner-work-spec : {M : Type 1} → statement M
-planner-work-spec =
+pub planner_work_spec : {M : Type 1} → statement M
+planner_work_spec =
     tie.close
     (tie.spec work-requires of-worked-requires same_length same-length-2 same-length-3 returns)

@@ -8,11 +8,11 @@ use Rattle.planner_c.proofs.tables.planner_check.Tie as tie
 check-requires : tie.Need-check-requires
 check-requires c κs = search rules
 
-of-checked-requires : tie.Need-of-checked-requires
+of-checked-requires : tie.Need-of_checked-requires
 of-checked-requires c κs = search rules
 
 returns : tie.Need-returns
-returns c = c.of-checked.ensures ∙ ap checked_as c.before.check.ensures ∙ answer_as checked_as _ _ _
+returns c = c.of_checked.ensures ∙ ap checked_as c.check.ensures ∙ answer_as checked_as _ _ _
 
-pub planner-check-spec : {M : Type 1} → statement M
-planner-check-spec = tie.close (tie.spec check-requires of-checked-requires returns)
+pub planner_check_spec : {M : Type 1} → statement M
+planner_check_spec = tie.close (tie.spec check-requires of-checked-requires returns)
