@@ -1,7 +1,7 @@
 /*
- * Calls of the planner from C: four riders in a row, 0-1, 1-2, 2-3. From the repository's folder, once `rt staticlib planner_c` has run:
+ * Calls of the planner from C: four riders in a row, 0-1, 1-2, 2-3. From the repository's folder, once `rt lib` has run in crates/planner_c:
  *
- *     cc -std=c99 -Iinclude examples/call.c target/staticlib/libplanner_c.a -o target/call && target/call
+ *     cc -std=c99 -Iinclude examples/call.c crates/planner_c/out/libplanner_c.a -o /tmp/call && /tmp/call
  */
 #include <inttypes.h>
 #include <stdio.h>

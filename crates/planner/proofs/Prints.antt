@@ -8,7 +8,6 @@ use lib.Seq.{take-append_seam}
 use Rattle.table.specs.Guard.{held, front}
 use Rattle.table.specs.declared.Refusal.{Refusal}
 use Rattle.table.proofs.Guards.{handed, cleared}
-use Rattle.io.specs.Counts.{IsPrefixLen}
 use Rattle.sheet.specs.Line.{refused_line}
 use Rattle.sheet.specs.Written.{Written}
 use Rattle.sheet.proofs.Written.{written-front}
@@ -18,8 +17,12 @@ use Rattle.answer.specs.declared.call.Answered.{Answered}
 use Rattle.answer.specs.declared.call.Answered.TheVariants.{Sheet, Refused}
 use Rattle.answer.proofs.Answers.{sheet_answer, refused-answer}
 
+-- so many bytes of a list can be taken
+abbrev Counts : ℕ → List ℕ → Type 0
+Counts k xs = (k ≤ length xs) × (k ≡ length (take k xs))
+
 -- a text at the front is taken whole
-taken_whole : (xs before : List ℕ) {new : List ℕ} {k : ℕ} → k ≡ length xs → new ≡ front xs before → IsPrefixLen k new × (take k new ≡ xs)
+taken_whole : (xs before : List ℕ) {new : List ℕ} {k : ℕ} → k ≡ length xs → new ≡ front xs before → Counts k new × (take k new ≡ xs)
 taken_whole xs before {new} {k} q e =
     let rest = drop (length xs) before in
     let same : take k new ≡ xs = rw (e, q) (take-append_seam xs rest) in
@@ -28,7 +31,7 @@ taken_whole xs before {new} {k} q e =
 
 module _ (t old : List ℕ) {r : Answered} {bytes : List ℕ} (answer : r ≡ answer_of t (length old))
     (lent : bytes ≡ held (text_of t (length old)) (front (sheet_of_text t) old) old) where
-  pub sheet_printed : {size : ℕ} → r ≡ Sheet size → IsPrefixLen size bytes × (take size bytes ≡ printed (answer_of t (length old)) (sheet_of_text t))
+  pub sheet_printed : {size : ℕ} → r ≡ Sheet size → Counts size bytes × (take size bytes ≡ printed (answer_of t (length old)) (sheet_of_text t))
   sheet_printed e =
       let a = sym answer ∙ e in
       let granted = sheet_answer t (length old) a in
@@ -36,7 +39,7 @@ module _ (t old : List ℕ) {r : Answered} {bytes : List ℕ} (answer : r ≡ an
       (whole.0, rw a whole.1)
 
   pub refusal_printed : {new : List ℕ} {x : Refusal} {end : ℕ} → r ≡ Refused x → 52 ≤ length old → x.number < 2 ^ 64 → x.place < 2 ^ 64
-      → Written bytes 0 (refused_line x.number x.place) new end → IsPrefixLen end new × (take end new ≡ printed (answer_of t (length old)) (sheet_of_text t))
+      → Written bytes 0 (refused_line x.number x.place) new end → Counts end new × (take end new ≡ printed (answer_of t (length old)) (sheet_of_text t))
   refusal_printed {x = x} e room number place w =
       let a = sym answer ∙ e in
       let long : length bytes ≡ length old = ap length (lent ∙ handed _ _ (refused-answer t (length old) a)) in

@@ -2,7 +2,6 @@
 #![tactic(auto)]
 
 ghost use Rattle.std.specs.Prelude.{◌≡◌, ◌≤◌, length, take};
-ghost use Rattle.io.specs.Counts.{IsPrefixLen};
 ghost use Rattle.answer.specs.Answer.{answer_of, sheet_of_text, printed};
 
 use std::io;
@@ -11,7 +10,7 @@ use std::io::Read;
 // What is printed for a text, at the front of `out`, and its length.
 fn print(text: &[u8], out: &mut [u8]) -> usize
     requires { 52 ≤ length out.old }
-    ensures counts { IsPrefixLen result out.new }
+    ensures counts { (result ≤ length out.new) × (result ≡ length (take result out.new)) }
     ensures printed { take result out.new ≡ printed (answer_of text.now (length out.old)) (sheet_of_text text.now) }
 {
     let answer = answer::text_to_sheet(text, out);

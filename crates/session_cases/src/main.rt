@@ -77,22 +77,10 @@ fn run(
         &mut redone[..m],
     );
     print_ran(rt, name, answer)?;
-    rows(
-        rt,
-        name,
-        b" status: lifted: redone",
-        &status,
-        &lifted,
-        &redone,
-    )?;
-    rows(
-        rt,
-        name,
-        b" stamps: levels: layers",
-        &stamps,
-        &levels,
-        &layers,
-    )?;
+    let of_events = b" status: lifted: redone";
+    rows(rt, name, of_events, &status, &lifted, &redone)?;
+    let of_rows = b" stamps: levels: layers";
+    rows(rt, name, of_rows, &stamps, &levels, &layers)?;
     row(rt, name, b" components", &components)?;
     print_yields(rt, name, &yields)?;
     row(rt, name, b" reached", &reached)

@@ -163,7 +163,7 @@ fn rattle_functions(reader: &mut Reader, functions: &mut Vec<Function>) -> Read<
             reader.skip_past(";")?;
             continue;
         }
-        reader.expect("#[no_mangle] pub extern \"C\" fn")?;
+        reader.expect("#[unsafe(no_mangle)] pub extern \"C\" fn")?;
         functions.push(signature(reader, rattle_parameter)?);
         reader.contract()?;
         reader.block()?;
@@ -176,6 +176,9 @@ fn rattle_structs(reader: &mut Reader) -> Read<Vec<Struct>> {
     let mut structs = vec![];
     while !reader.is_done() {
         if reader.take("#[repr(C)]") {
+            while reader.take("#[derive") {
+                reader.skip_past("]")?;
+            }
             structs.push(laid_out(reader)?);
             continue;
         }
@@ -303,6 +306,7 @@ fn c(header: &str) -> Read<Interface> {
 fn exporting_files() -> Read<Vec<(String, String)>> {
     let source = file("crates/planner_c/src/lib.rt");
     let (mut reader, mut files) = (Reader::new("crates/planner_c/src/lib.rt", &source), vec![]);
+    reader.expect("#![tactic(auto)]")?;
     while !reader.is_done() {
         reader.expect("pub mod")?;
         let path = format!("crates/planner_c/src/{}.rt", reader.word()?);
@@ -328,12 +332,13 @@ fn declarations() {
 const RATTLE: &str = r#"// answers
 ghost use a.{b};
 fn accepted(first: u8) -> Answer
-    ensures { λ r. ⌜ r ≡ first ⌝ }
+    ensures { result.first ≡ first }
 {
     Answer { number: 0, first }
 }
 
 #[repr(C)]
+#[derive(Drop)]
 pub struct Answer {
     pub number: u64,
     pub first: u64,
@@ -341,15 +346,15 @@ pub struct Answer {
 ----
 use numbers::Answer;
 
-#[no_mangle]
+#[unsafe(no_mangle)]
 pub extern "C" fn planner_a(from: &[u16], to: &mut [i16]) -> Answer
-    requires { ⌜ from ⌝ }
-    ensures answer { λ r. ⌜ cond { a } { b } ⌝ }
+    requires { from }
+    ensures answer { cond { a } { b } }
 {
     if from[0] == b'{' as u16 { a(from, to) } else { b(from, to) }
 }
 
-#[no_mangle]
+#[unsafe(no_mangle)]
 pub extern "C" fn planner_b(
     from: &[u8],
     x: usize,
@@ -410,7 +415,7 @@ fn changed(text: &str, parse: Parse, old: &str, new: &str) -> Read<Interface> {
 /// function's name, another field, the type of a number that is no slice: in each of the three it is told from what the others say.
 #[test]
 fn changes_are_told() {
-    let rattle_b = &RATTLE[RATTLE.rfind("#[no_mangle]").unwrap()..];
+    let rattle_b = &RATTLE[RATTLE.rfind("#[unsafe(no_mangle)]").unwrap()..];
     let rust_b = &RUST[RUST.find("    pub fn planner_b").unwrap()..RUST.rfind('}').unwrap()];
     let header_b = &HEADER[HEADER.find("planner_answer planner_b").unwrap()..HEADER.rfind("#ifdef").unwrap()];
     let cases: [(&str, Parse, [(&str, &str); 10]); 3] = [
@@ -474,10 +479,10 @@ fn strangers_are_refused() {
         (RATTLE, rattle_of_two, "&[u16]", "&[bool]", "exports:4: `bool` where a type of numbers is expected"),
         (RATTLE, rattle_of_two, "&mut [i16]", "&mut [i16; 4]", "exports:4: `;` where `]` is expected"),
         (RATTLE, rattle_of_two, "y: u16", "y: &u16", "exports:15: `u16` where `[` is expected"),
-        (RATTLE, rattle_of_two, "#[no_mangle]\npub extern \"C\" fn planner_b", "pub extern \"C\" fn planner_b", "exports:11: `pub` where `#[no_mangle] pub extern \"C\" fn` is expected"),
-        (RATTLE, rattle_of_two, "#[no_mangle]\npub extern \"C\" fn planner_b", "fn planner_b", "exports:11: `fn` where `#[no_mangle] pub extern \"C\" fn` is expected"),
+        (RATTLE, rattle_of_two, "#[unsafe(no_mangle)]\npub extern \"C\" fn planner_b", "pub extern \"C\" fn planner_b", "exports:11: `pub` where `#[unsafe(no_mangle)] pub extern \"C\" fn` is expected"),
+        (RATTLE, rattle_of_two, "#[unsafe(no_mangle)]\npub extern \"C\" fn planner_b", "fn planner_b", "exports:11: `fn` where `#[unsafe(no_mangle)] pub extern \"C\" fn` is expected"),
         (RATTLE, rattle_of_two, ",\n) -> Answer", ",\n) -> Other", "planner_b answers Other, which is no struct of the exports"),
-        (RATTLE, rattle_of_two, "#[repr(C)]\n", "", "numbers:9: `struct` where `#[repr(C)]` above it is expected"),
+        (RATTLE, rattle_of_two, "#[repr(C)]\n", "", "numbers:10: `struct` where `#[repr(C)]` above it is expected"),
         (RUST, rust, "*const u8", "*u8", "exports.rs:13: `u8` where `const` is expected"),
         (RUST, rust, "to: *mut i16, to_len: usize", "to: *mut i16, room: usize", "planner_a: no length behind to"),
         (RUST, rust, "from_len: usize, x: usize", "x: usize, from_len: usize", "planner_b: no length behind from"),

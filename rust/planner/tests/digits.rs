@@ -64,7 +64,7 @@ fn no_division() {
 #[test]
 fn divisions() {
     let told = |a: &str, c: &str| {
-        let a = format!("fn a(v: u16) -> u16\n    ensures {{ λ r. ⌜ r ≡ v / 10 ⌝ }}\n{{\n    {a}\n}}\n");
+        let a = format!("fn a(v: u16) -> u16\n    ensures {{ result ≡ v / 10 }}\n{{\n    {a}\n}}\n");
         let source = format!("{a}fn b(s: &[u8]) {{ c(s.len(), '%') }}\nfn c() {{ {c} }}\nfn D() {{ 1 / 2 }}\n");
         undivided(&functions("e.rt", &source).unwrap(), &["a"]).map(|reached| reached.join(" "))
     };

@@ -65,7 +65,7 @@ fn printed(name: &str) -> String {
     let (root, program) = (source::root(), Path::new(env!("CARGO_TARGET_TMPDIR")).join(name));
     let mut compiler = Command::new("cc");
     compiler.args(["-std=c99", "-Wall", "-Wextra", "-Wpedantic", "-Werror", "-Iinclude"]).arg(format!("examples/{name}.c"));
-    done(compiler.arg("target/staticlib/libplanner_c.a").arg("-o").arg(&program).current_dir(root));
+    done(compiler.arg("crates/planner_c/out/libplanner_c.a").arg("-o").arg(&program).current_dir(root));
     String::from_utf8(done(&mut Command::new(program)).stdout).unwrap()
 }
 

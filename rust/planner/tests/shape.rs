@@ -81,8 +81,8 @@ fn measures() {
     let source = |parameters: usize, body: usize, line: usize| {
         let list: Vec<String> = (0..parameters).map(|i| format!("p{i}: &mut [u16; 4]")).collect();
         let inside = "    if x == b'}' { y(1, 2); }\n".repeat(body - 2);
-        let tail = format!("// {}\n", "⌜".repeat(line - 3));
-        format!("fn f<'a, 'b>(\n{},\n) -> [u8; 3]\n    requires {{ ⌜ a ⌝ }}\n    ensures b {{ λ r. {{ }} }}\n{{\n{inside}}}\n{tail}", list.join(",\n"))
+        let tail = format!("// {}\n", "≡".repeat(line - 3));
+        format!("fn f<'a, 'b>(\n{},\n) -> [u8; 3]\n    requires {{ a }}\n    ensures b {{ cond {{ }} }}\n{{\n{inside}}}\n{tail}", list.join(",\n"))
     };
     let told = |parameters, body, line| violations("crates/a/src/b.rt", &source(parameters, body, line)).unwrap();
     assert_eq!(told(10, 40, 200), [""; 0]);
