@@ -1,8 +1,8 @@
 /*
  * Ceilings of the planner's search from C: four riders in a row, 0-1, 1-2, 2-3, of whom 0 is retained. From the repository's folder, once
- * `rt staticlib planner_c` has run:
+ * `rt lib` has run in crates/planner_c:
  *
- *     cc -std=c99 -Iinclude examples/ceiling.c target/staticlib/libplanner_c.a -o target/ceiling && target/ceiling
+ *     cc -std=c99 -Iinclude examples/ceiling.c crates/planner_c/out/libplanner_c.a -o /tmp/ceiling && /tmp/ceiling
  */
 #include <inttypes.h>
 #include <stdio.h>
