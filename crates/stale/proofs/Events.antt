@@ -10,7 +10,6 @@ use borrow.Author.Tests.{lt-ltb}
 use Rattle.finite.proofs.Tests.{true_of, not-or, neqb}
 use Rattle.finite.proofs.Count.{zeros-at}
 use Rattle.anchored.specs.Graph.{Graph, Simple}
-use Rattle.anchored.specs.Component.{component}
 use Rattle.anchored.specs.Yield.{nobody, bare_level}
 use Rattle.anchored.specs.Changed.{Tells}
 use Rattle.anchored.proofs.Changed.{same-tells}

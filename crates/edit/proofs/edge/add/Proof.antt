@@ -1,5 +1,4 @@
 -- `edge::add` meets its contract. Assumes nothing.
-use Prim.Native.Nat.{◌-◌}
 use native.Mathlib.Omega.{arith}
 use Rattle.edit.proofs.Edges.{first_put, second_put, added}
 use borrow.Author.Rules.{rules}

@@ -1,5 +1,4 @@
 -- `edge::drop` meets its contract. Assumes nothing.
-use Prim.Native.Nat.{◌-◌}
 use native.Mathlib.Omega.{arith}
 use Rattle.edit.proofs.Edges.{first-take, second-take, dropped}
 use borrow.Author.Rules.{rules}

@@ -15,9 +15,6 @@ use Rattle.table.proofs.Laws.{neighbors-few}
 use Rattle.table.proofs.Edges.{handshake}
 use Rattle.table.proofs.size.measure.Statement.{statement}
 use Rattle.table.proofs.size.measure.Tie as tie
-use Rattle.table.proofs.size.measure.Reads as reads
-use Rattle.table.proofs.size.measure.Lts as lts
-use Rattle.table.proofs.neighbors.Reads as neighbors-reads
 
 abbrev invariant-loop-v : tie.invariant-loop-v
 invariant-loop-v starts links n degrees₀ max-degree₀ v₀ degrees max-degree v =
