@@ -6,4 +6,3 @@ pub mod Pairs
 pub mod Bytes
 pub mod Falling
 pub mod Edits
-pub mod Moments
