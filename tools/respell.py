@@ -23,7 +23,7 @@ PART = r"[\w'\u2080-\u2089]+"
 CAMEL = re.compile(r"[a-z][A-Za-z0-9]*[A-Z]")
 WORD = re.compile(PART)
 DASHED = re.compile(r"(?<![\w'\u2080-\u2089-])" + PART + "(?:-" + PART + r")+(?![\w'\u2080-\u2089-])")
-SIGNED = re.compile(r"^([ ]*)((?:(?:abbrev|unfoldable|pub|record|data)\s+)*)([^\s(){}:;]+)\s*(?:\([^)]*\)|\{[^}]*\})*\s*:", re.M)
+SIGNED = re.compile(r"([ ]*)((?:(?:abbrev|unfoldable|pub|data)\s+)*)([^\s(){}:;]+)\s*(?:\([^)]*\)|\{[^}]*\})*\s*:")
 
 
 def snake(word):
@@ -46,14 +46,16 @@ def read(path):
 def signed(text):
     """The names that a file of definitions declares: (name, whether it is a definition's or a record's field)."""
     inside = None
-    for m in SIGNED.finditer(text):
-        indent, marks = len(m[1]), m[2].split()
-        if inside is not None and indent <= inside:
+    for line in text.split("\n"):
+        indent = len(line) - len(line.lstrip())
+        if inside is not None and line.strip() and indent <= inside:
             inside = None
-        if "record" in marks:
+        if re.match(r" *(?:pub )?record ", line):
             inside = indent
             continue
-        yield m[3], inside is not None or "abbrev" in marks or "unfoldable" in marks
+        m = SIGNED.match(line)
+        if m and "data" not in m[2].split():
+            yield m[3], inside is not None or "abbrev" in m[2].split() or "unfoldable" in m[2].split()
 
 
 def joined(name, names):
