@@ -63,7 +63,7 @@ fn put_retain(out: &mut [u8], at: usize, chosen: Chosen) -> usize
     put_text(out, end, b")")
 }
 
-// ` (marks.++.)`
+// ` (marks .++.)`
 fn put_marks(out: &mut [u8], at: usize, marks: &[u8; 1024], n: usize) -> usize
     requires n_bound { n ≤ 1024 }
     requires n_in_bounds { at + (9 + n) ≤ length out.old }
