@@ -3,7 +3,7 @@
 
 pub mod tables; // the check of a table
 pub mod levels; // level sheets, the component list, the search, its ceiling and the collapse
-pub mod terms; // the first day under k, vertices being anchored by term
+pub mod days; // the first day under k, vertices being anchored by term
 pub mod sharing; // the sheet of the rounds that houses share
 pub mod sessions; // a list of events
 pub mod texts; // from a text to a sheet

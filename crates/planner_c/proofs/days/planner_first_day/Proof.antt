@@ -2,8 +2,8 @@ use mathlib.Core.Path.{ap, ◌∙◌}
 use Rattle.table.proofs.Guards.{answer_as}
 use Rattle.numbers.specs.Numbers.{dated_as}
 use borrow.Author.Rules.{rules}
-use Rattle.planner_c.proofs.terms.planner_first_day.Statement.{statement}
-use Rattle.planner_c.proofs.terms.planner_first_day.Tie as tie
+use Rattle.planner_c.proofs.days.planner_first_day.Statement.{statement}
+use Rattle.planner_c.proofs.days.planner_first_day.Tie as tie
 
 first-day-requires : tie.Need-first_day-dated-requires
 first-day-requires c κs = search rules
