@@ -12,9 +12,6 @@ use Rattle.edit.proofs.Checked.{links_decide}
 use Rattle.edit.proofs.lent.check_lent.Statement.{statement}
 use Rattle.edit.proofs.lent.check_lent.Tie as tie
 
-abbrev entry : tie.After-shared_slice_known-3-1 → tie.Start
-entry c = c.before.before.before.before.before
-
 refused-requires : tie.Need-refused-requires
 refused-requires c κs = search rules
 
@@ -41,7 +38,7 @@ shared-slice-read-last : tie.Need-bounds-starts-n
 shared-slice-read-last c = search rules
 
 cast-last : tie.Need-overflow_cast-last
-cast-last c = omega (arith, c.shared_slice_known-3-1.given (vertices (entry c).args.starts.now))
+cast-last c = omega (arith, c.shared_slice_known-3-1.given (vertices c.args.starts.now))
 
 refused-requires-3 : tie.Need-refused-requires-then-links-ne16384
 refused-requires-3 c κs = search rules
@@ -49,8 +46,8 @@ refused-requires-3 c κs = search rules
 returns-3 : tie.Need-returns-then-links-ne16384
 unfolding check_lent
 returns-3 c =
-    let s = (entry c.before.before).args.starts.now in
-    let l = (entry c.before.before).args.links.now in
+    let s = c.args.starts.now in
+    let l = c.args.links.now in
     c.refused-then-links-ne16384.ensures ∙ sym (simp (ne_eqb (length s) 0 c.if-starts-eq0.false, le-ltb 1024 (vertices s) c.if-n-gt1024.false, ne_eqb (length l) 16384 c.if-links-ne16384.true))
 
 refused-requires-4 : tie.Need-refused-requires-then-last-gt16384
@@ -59,8 +56,8 @@ refused-requires-4 c κs = search rules
 returns-4 : tie.Need-returns-then-last-gt16384
 unfolding check_lent
 returns-4 c =
-    let s = (entry c.before.before.before).args.starts.now in
-    let l = (entry c.before.before.before).args.links.now in
+    let s = c.args.starts.now in
+    let l = c.args.links.now in
     c.refused-then-last-gt16384.ensures ∙ sym (simp (
       ne_eqb (length s) 0 c.if-starts-eq0.false,
       le-ltb 1024 (vertices s) c.if-n-gt1024.false,
@@ -70,7 +67,7 @@ returns-4 c =
 
 slice-aggregate-test-table : tie.Need-slice_bounds-test_table-end
 slice-aggregate-test-table c =
-    let x = (entry c.before.before).args in
+    let x = c.args in
     sym (length-take-le (last_start x.starts.now) x.links.now (omega arith))
 
 test-table-requires : tie.Need-test_table-requires
@@ -78,7 +75,7 @@ test-table-requires c κs = search rules
 
 returns-5 : tie.Need-returns
 returns-5 c =
-    let x = (entry c.before.before.before).args in
+    let x = c.args in
     c.test_table.ensures ∙ sym (links_decide x.starts.now x.links.now c.if-starts-eq0.false c.if-n-gt1024.false c.if-links-ne16384.false c.if-last-gt16384.false)
 
 pub check_lent_spec : {M : Type 1} → statement M
