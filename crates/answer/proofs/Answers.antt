@@ -9,9 +9,10 @@ use lib.Seq.{length-take-le, get_or-take}
 use borrow.Author.Tests.{le-ltb, ltb-false}
 use Rattle.table.specs.Table.{vertices, check_of}
 use Rattle.table.specs.Guard.{answer, past, front}
-use Rattle.table.specs.declared.Refusal.{Refusal}
-use Rattle.table.specs.declared.Guard.{Guard}
-use Rattle.table.specs.declared.Guard.TheVariants.{Passed, Refused}
+use Rattle.table.specs.Rule.{Refusal}
+use Rattle.table.specs.Guard.{Guard}
+use Rattle.table.specs.Guard.{clear}
+use Rattle.std.specs.Prelude.{Ok, Err}
 use Rattle.table.proofs.Guards.{both-passed}
 use Rattle.table.proofs.Laws.{went_on, sound}
 use Rattle.pool.specs.Input.{graph_of, anchored_by, Admitted}
@@ -26,22 +27,22 @@ use Rattle.answer.specs.declared.call.Answered.TheVariants.{Sheet, Refused as Sh
 
 module _ (t : List ℕ) (room : ℕ) where
   -- the answer is a refusal only where the guard is
-  pub refused-answer : {x : Refusal} → answer_of t room ≡ SheetRefused x → text_of t room ≡ Refused x
+  pub refused-answer : {x : Refusal} → answer_of t room ≡ SheetRefused x → text_of t room ≡ Err x
   unfolding answer_of answer
   refused-answer {x} e = by_guard (text_of t room) e
     where
-      by_guard : (guard : Guard) → answer guard (Sheet (length (sheet_of_text t))) SheetRefused ≡ SheetRefused x → guard ≡ Refused x
-      by_guard Passed e = let z : ◌≡◌ {A = ℕ} 0 1 = cc in absurd (omega arith)
-      by_guard (Refused y) e = let same : y ≡ x = cc in ap Refused same
+      by_guard : (guard : Guard) → answer guard (Sheet (length (sheet_of_text t))) SheetRefused ≡ SheetRefused x → guard ≡ Err x
+      by_guard (Ok tt) e = let z : ◌≡◌ {A = ℕ} 0 1 = cc in absurd (omega arith)
+      by_guard (Err y) e = let same : y ≡ x = cc in ap Err same
 
   -- a sheet is answered only where nothing is refused, and with its length
-  pub sheet_answer : {size : ℕ} → answer_of t room ≡ Sheet size → (text_of t room ≡ Passed) × (length (sheet_of_text t) ≡ size)
+  pub sheet_answer : {size : ℕ} → answer_of t room ≡ Sheet size → (text_of t room ≡ clear) × (length (sheet_of_text t) ≡ size)
   unfolding answer_of answer
   sheet_answer {size} e = by_guard (text_of t room) e
     where
-      by_guard : (guard : Guard) → answer guard (Sheet (length (sheet_of_text t))) SheetRefused ≡ Sheet size → (guard ≡ Passed) × (length (sheet_of_text t) ≡ size)
-      by_guard Passed e = (refl, cc)
-      by_guard (Refused y) e = let z : ◌≡◌ {A = ℕ} 0 1 = cc in absurd (omega arith)
+      by_guard : (guard : Guard) → answer guard (Sheet (length (sheet_of_text t))) SheetRefused ≡ Sheet size → (guard ≡ clear) × (length (sheet_of_text t) ≡ size)
+      by_guard (Ok tt) e = (refl, cc)
+      by_guard (Err y) e = let z : ◌≡◌ {A = ℕ} 0 1 = cc in absurd (omega arith)
 
 -- the size of a sheet of at most 60 rounds is no great number
 pub size_small : (rounds n : ℕ) → rounds ≤ 60 → n < 65536 → rounds * (48 + n) < 4000000
@@ -56,12 +57,12 @@ asked_tabled asked s l room small few = rw (le-ltb 1024 asked.riders small, le-l
 pub record Granted (asked : Summary) (s l : List ℕ) (room : ℕ) : Type 0 where
   pub small : asked.riders ≤ 1024
   pub few : asked.links ≤ 16384
-  pub table : check_of s l ≡ Passed
+  pub table : check_of s l ≡ clear
   pub rounds : asked.rounds ≤ 60
   pub enough : size_of asked ≤ room
   pub within : 65536 ≤ asked.beyond
 
-pub granted : (asked : Summary) (s l : List ℕ) (room : ℕ) → asked_of asked s l room ≡ Passed → Granted asked s l room
+pub granted : (asked : Summary) (s l : List ℕ) (room : ℕ) → asked_of asked s l room ≡ clear → Granted asked s l room
 unfolding asked_of
 granted asked s l room e =
     let large = went_on _ _ _ _ e in

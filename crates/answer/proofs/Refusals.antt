@@ -13,9 +13,10 @@ use Rattle.finite.specs.Search.{any, member, first, NoneBelow}
 use Rattle.finite.proofs.Tests.{and_l, and_r, or-e, split, true_of, false_of, neqb}
 use Rattle.table.specs.Table.{vertices, bad_start, wrong_end, wrong_step, beyond, looped, unsorted, unreturned, check_of}
 use Rattle.table.specs.Guard.{refused, refuse, answer, past}
-use Rattle.table.specs.declared.Refusal.{Refusal}
-use Rattle.table.specs.declared.Guard.{Guard}
-use Rattle.table.specs.declared.Guard.TheVariants.{Passed, Refused}
+use Rattle.table.specs.Rule.{Refusal}
+use Rattle.table.specs.Guard.{Guard}
+use Rattle.table.specs.Guard.{clear}
+use Rattle.std.specs.Prelude.{Ok, Err}
 use Rattle.table.proofs.Laws.{pass}
 use Rattle.text.specs.Text.{reading_of, starts_read, links_read, rider_lines_read}
 use Rattle.text.specs.declared.read.Summary.{Summary}
@@ -62,26 +63,26 @@ module _ (x : Refusal) (room : ℕ) where
   Listed = T (with_room room x.number)
 
   -- a refusal is this one, or comes later
-  told : (k p : ℕ) → T (with_room room k) → refused k p ≡ Refused x → Listed
+  told : (k p : ℕ) → T (with_room room k) → refused k p ≡ Err x → Listed
   told k p h e = let q : k ≡ x.number = cc in subst (λ j. T (with_room room j)) q h
 
-  next : (b : Bool) (k p : ℕ) (rest : Guard) → (T b → T (with_room room k)) → cond b (refused k p) rest ≡ Refused x → (T (not b) → rest ≡ Refused x → Listed) → Listed
+  next : (b : Bool) (k p : ℕ) (rest : Guard) → (T b → T (with_room room k)) → cond b (refused k p) rest ≡ Err x → (T (not b) → rest ≡ Err x → Listed) → Listed
   next true k p rest h e later = told k p (h tt) e
   next false k p rest h e later = later tt e
 
   -- the same for a search
-  next-found : (k : ℕ) (p : ℕ → Bool) (n : ℕ) (rest : Guard) → T (with_room room k) → refuse k p n rest ≡ Refused x → (rest ≡ Refused x → Listed) → Listed
+  next-found : (k : ℕ) (p : ℕ → Bool) (n : ℕ) (rest : Guard) → T (with_room room k) → refuse k p n rest ≡ Err x → (rest ≡ Err x → Listed) → Listed
   next-found k p n rest h e later = next (ltb (first p n) n) k (first p n) rest (λ t. h) e (λ t. later)
 
-  passed-not : Passed ≡ Refused x → Listed
+  passed-not : clear ≡ Err x → Listed
   passed-not e = let z : ◌≡◌ {A = ℕ} 0 1 = cc in absurd (omega arith)
 
   -- a table with a start and no bad one is refused 2, 3, 5, 6, 7 or 8
-  table-listed : (s l : List ℕ) → 0 < length s → NoneBelow (bad_start s l) (length s) → check_of s l ≡ Refused x → Listed
+  table-listed : (s l : List ℕ) → 0 < length s → NoneBelow (bad_start s l) (length s) → check_of s l ≡ Err x → Listed
   unfolding check_of any
   table-listed s l some none e =
       let n = vertices s in
-      let eight = refuse 8 (unreturned s l) n Passed in
+      let eight = refuse 8 (unreturned s l) n clear in
       let seven = refuse 7 (unsorted s l) n eight in
       let six = refuse 6 (looped s l) n seven in
       let five = refuse 5 (beyond s l) n six in
@@ -92,10 +93,10 @@ module _ (x : Refusal) (room : ℕ) where
       next-found 5 (beyond s l) n six tt (sym (pass 4 (bad_start s l) (length s) five none) ∙ e₃) (λ e₅.
       next-found 6 (looped s l) n seven tt e₅ (λ e₆.
       next-found 7 (unsorted s l) n eight tt e₆ (λ e₇.
-      next-found 8 (unreturned s l) n Passed tt e₇ passed-not)))))
+      next-found 8 (unreturned s l) n clear tt e₇ passed-not)))))
 
   -- of at most 1,024 riders and 60 rounds no sheet needs more than 64,320 bytes
-  room-listed : (asked : Summary) → asked.riders ≤ 1024 → room_of asked room ≡ Refused x → Listed
+  room-listed : (asked : Summary) → asked.riders ≤ 1024 → room_of asked room ≡ Err x → Listed
   unfolding any
   room-listed asked small e =
       next (ltb 60 asked.rounds) 11 0 _ (λ t. tt) e (λ few e₁.
@@ -105,23 +106,23 @@ module _ (x : Refusal) (room : ℕ) where
       next (ltb asked.beyond 65536) 15 asked.beyond _ (λ s. tt) e₂ (λ s. passed-not)))
 
   -- of two guards the first refuses, or the second
-  either : (first next : Guard) → past first next ≡ Refused x → (first ≡ Refused x → Listed) → (next ≡ Refused x → Listed) → Listed
+  either : (first next : Guard) → past first next ≡ Err x → (first ≡ Err x → Listed) → (next ≡ Err x → Listed) → Listed
   unfolding answer
-  either Passed next e f g = g e
-  either (Refused y) next e f g = f e
+  either (Ok tt) next e f g = g e
+  either (Err y) next e f g = f e
 
-  asked-listed : (asked : Summary) (s l : List ℕ) → 0 < length s → NoneBelow (bad_start s l) (length s) → asked_of asked s l room ≡ Refused x → Listed
+  asked-listed : (asked : Summary) (s l : List ℕ) → 0 < length s → NoneBelow (bad_start s l) (length s) → asked_of asked s l room ≡ Err x → Listed
   unfolding asked_of any
   asked-listed asked s l some none e =
       next (ltb 1024 asked.riders) 2 0 _ (λ t. tt) e (λ small e₁.
       next (ltb 16384 asked.links) 3 0 _ (λ t. tt) e₁ (λ t e₂.
       either (check_of s l) (room_of asked room) e₂ (table-listed s l some none) (room-listed asked (nltb→le 1024 asked.riders small))))
 
-  text_listed : (t : List ℕ) → text_of t room ≡ Refused x → Listed
+  text_listed : (t : List ℕ) → text_of t room ≡ Err x → Listed
   unfolding text_of any
   text_listed t e = next (ltb 65536 (length t)) 17 0 _ (λ s. tt) e (λ s. go (reading_of t) refl)
     where
-      go : (c : Reading) → reading_of t ≡ c → (elim c [ Read asked ↦ asked_of asked (starts_read t) (links_read t) room | Departs line ↦ refused 18 line ]) ≡ Refused x → Listed
+      go : (c : Reading) → reading_of t ≡ c → (elim c [ Read asked ↦ asked_of asked (starts_read t) (links_read t) room | Departs line ↦ refused 18 line ]) ≡ Err x → Listed
       go (Read asked) q e = asked-listed asked (starts_read t) (links_read t) (omega (arith, (table-read t asked q).count)) (starts_good t q) e
       go (Departs line) q e = told 18 line tt e
 

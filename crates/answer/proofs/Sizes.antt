@@ -10,7 +10,7 @@ use lib.Dec.{ltb}
 use Rattle.finite.specs.Search.{member}
 use Rattle.table.specs.Table.{vertices}
 use Rattle.table.specs.Guard.{refused}
-use Rattle.table.specs.declared.Guard.TheVariants.{Passed}
+use Rattle.table.specs.Guard.{clear}
 use Rattle.table.proofs.Laws.{went_on}
 use Rattle.pool.specs.Input.{graph_of}
 use Rattle.text.specs.Text.{reading_of, starts_read, links_read, retained_read}
@@ -45,11 +45,11 @@ size-asked t {asked} e =
     rw (text_length t, rounds-read t e, n)
 
 -- a text of which nothing is refused was read whole
-pub text_granted : (t : List ℕ) (room : ℕ) → text_of t room ≡ Passed → (asked : Summary) × (reading_of t ≡ Read asked) × Granted asked (starts_read t) (links_read t) room
+pub text_granted : (t : List ℕ) (room : ℕ) → text_of t room ≡ clear → (asked : Summary) × (reading_of t ≡ Read asked) × Granted asked (starts_read t) (links_read t) room
 unfolding text_of
 text_granted t room e = whole (reading_of t) refl (went_on (ltb 65536 (length t)) 17 0 _ e).1
   where
-    whole : (c : Reading) → reading_of t ≡ c → (elim c [ Read asked ↦ asked_of asked (starts_read t) (links_read t) room | Departs line ↦ refused 18 line ]) ≡ Passed
+    whole : (c : Reading) → reading_of t ≡ c → (elim c [ Read asked ↦ asked_of asked (starts_read t) (links_read t) room | Departs line ↦ refused 18 line ]) ≡ clear
         → (asked : Summary) × (reading_of t ≡ Read asked) × Granted asked (starts_read t) (links_read t) room
     whole (Read asked) q e = (asked, q, granted asked (starts_read t) (links_read t) room e)
     whole (Departs line) q e = let z : ◌≡◌ {A = ℕ} 0 1 = cc in absurd (omega arith)

@@ -13,7 +13,7 @@ use Rattle.finite.proofs.Tests.{split, true_of, false_of}
 use Rattle.finite.proofs.Count.{length-tabulate, tabulate-at, bit-one, bit_le}
 use Rattle.finite.proofs.Search.{member-e}
 use Rattle.table.specs.Guard.{refused, answer}
-use Rattle.table.specs.declared.Refusal.{Refusal}
+use Rattle.table.specs.Rule.{Refusal}
 use Rattle.pool.specs.Input.{anchored_by}
 use Rattle.lines.specs.List.{anchor, first_beyond}
 use Rattle.text.specs.Text.{reading_of, rider_lines_read, starts_read, links_read, retained_read}

@@ -3,8 +3,8 @@ use Rattle.std.specs.Prelude.{Bool, cond, List, ℕ, ◌+◌, ◌*◌, length, l
 use Rattle.finite.specs.Search.{member}
 use Rattle.table.specs.Table.{vertices, check_of}
 use Rattle.table.specs.Guard.{refused, answer, past}
-use Rattle.table.specs.declared.Guard.{Guard}
-use Rattle.table.specs.declared.Guard.TheVariants.{Passed}
+use Rattle.table.specs.Guard.{Guard}
+use Rattle.table.specs.Guard.{clear}
 use Rattle.pool.specs.Input.{graph_of}
 use Rattle.text.specs.Text.{reading_of, starts_read, links_read, retained_read}
 use Rattle.text.specs.declared.read.Summary.{Summary}
@@ -23,7 +23,7 @@ abbrev pub room_of : Summary → ℕ → Guard
 room_of asked room =
     cond (ltb 60 asked.rounds) (refused 11 0)
     (cond (ltb room (size_of asked)) (refused 12 0)
-    (cond (ltb asked.beyond 65536) (refused 15 asked.beyond) Passed))
+    (cond (ltb asked.beyond 65536) (refused 15 asked.beyond) clear))
 
 -- 2 and 3 for the numbers of vertices and links read, 5 to 8 for the table, then the rest
 unfoldable pub asked_of : Summary → List ℕ → List ℕ → ℕ → Guard

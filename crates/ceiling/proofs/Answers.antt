@@ -9,7 +9,7 @@ use borrow.Author.Tests.{eq-eqb}
 use Rattle.table.specs.Table.{vertices}
 use Rattle.table.specs.Size.{size_of}
 use Rattle.table.specs.Guard.{refused, answer, past}
-use Rattle.table.specs.declared.Guard.TheVariants.{Passed}
+use Rattle.table.specs.Guard.{clear}
 use Rattle.table.specs.declared.size.Size.{Size}
 use Rattle.table.proofs.Guards.{both-passed, accepted_only, past-past}
 use Rattle.anchored.specs.Followers.{followers, reached}
@@ -37,14 +37,14 @@ module _ (s l a lev lay : List ℕ) (x : ℕ) where
       sym (past-past (admit_of s l a) vertex (guard_of_free a x)) ∙ ap (λ b. past (past (admit_of s l a) (cond b vertex (refused 12 0))) (guard_of_free a x)) (sym (eq-eqb n n refl))
 
   -- what is not refused is admitted, with the defined sheet and a vertex that is not anchored
-  pub start-sound : Admitted s l a → start_of s l a lev lay x ≡ Passed → Accepted s l a lev lay × (x < vertices s) × (get_or a x 0 ≡ 0)
+  pub start-sound : Admitted s l a → start_of s l a lev lay x ≡ clear → Accepted s l a lev lay × (x < vertices s) × (get_or a x 0 ≡ 0)
   unfolding start_of
   start-sound given e =
       let through = both-passed (vertex_of s l a lev lay x) (guard_of_free a x) e in
       let vertex = vertex-sound s l a lev lay x given.table through.0 in
       (vertex.0, vertex.1, free-sound x given vertex.1 through.1)
 
-  pub ceiling-sound : ceiling_of s l a lev lay x ≡ Passed → Admitted s l a × Accepted s l a lev lay × (x < vertices s)
+  pub ceiling-sound : ceiling_of s l a lev lay x ≡ clear → Admitted s l a × Accepted s l a lev lay × (x < vertices s)
   unfolding ceiling_of
   ceiling-sound e =
       let through = both-passed (admit_of s l a) (start_of s l a lev lay x) e in

@@ -1,7 +1,7 @@
 -- Document 02, card 11: what the ceiling of a search is refused for.
 use Rattle.std.specs.Prelude.{List, ℕ}
 use Rattle.table.specs.Guard.{past}
-use Rattle.table.specs.declared.Guard.{Guard}
+use Rattle.table.specs.Guard.{Guard}
 use Rattle.pool.specs.Input.{admit_of}
 use Rattle.marking.specs.Marking.{vertex_of, guard_of_free}
 

@@ -5,8 +5,8 @@ use Rattle.finite.specs.Search.{any, all, first_from, first, ascending}
 use Rattle.finite.specs.Pairs.{pair_le}
 use Rattle.table.specs.Table.{neighbors, bad_start, beyond, looped, unsorted, unreturned, check_of}
 use Rattle.table.specs.Guard.{refused, answer}
-use Rattle.table.specs.declared.Guard.{Guard}
-use Rattle.table.specs.declared.Guard.TheVariants.{Passed}
+use Rattle.table.specs.Guard.{Guard}
+use Rattle.table.specs.Guard.{clear}
 use Rattle.anchored.specs.Sheet.{misplaced, too_high, too_low, too_late}
 use Rattle.pool.specs.Input.{admit_of}
 use Rattle.level_sheet.specs.SheetCheck.{sheet_of}
@@ -26,7 +26,7 @@ first_anchored l x = chain (1 ∷ 0 ∷ 0 ∷ 0 ∷ []) (65535 ∷ 1 ∷ 1 ∷ 1
 
 pub refusals :
     -- the defined sheet and a vertex that is not anchored
-    (free 2 0 ∷ free 2 3 ∷ first_anchored 2 1 ∷ [] ≡ Passed ∷ Passed ∷ Passed ∷ [])
+    (free 2 0 ∷ free 2 3 ∷ first_anchored 2 1 ∷ [] ≡ clear ∷ clear ∷ clear ∷ [])
     -- 15 and 16, at x
     × (free 2 4 ∷ free 2 9 ∷ first_anchored 2 7 ∷ first_anchored 2 0 ∷ [] ≡ refused 15 4 ∷ refused 15 9 ∷ refused 15 7 ∷ refused 16 0 ∷ [])
     -- a sheet that is not the defined one is told before x

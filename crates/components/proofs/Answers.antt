@@ -8,8 +8,9 @@ use Rattle.finite.specs.Count.{count, below}
 use Rattle.table.specs.Table.{vertices}
 use Rattle.table.specs.Size.{size_of}
 use Rattle.table.specs.declared.size.Size.{Size}
-use Rattle.table.specs.declared.Guard.{Guard}
-use Rattle.table.specs.declared.Guard.TheVariants.{Passed, Refused}
+use Rattle.table.specs.Guard.{Guard}
+use Rattle.table.specs.Guard.{clear}
+use Rattle.std.specs.Prelude.{Err}
 use Rattle.table.proofs.Guards.{handed, cleared}
 use Rattle.anchored.specs.Component.{heads}
 use Rattle.anchored.proofs.Ranked.{ranked-length}
@@ -21,7 +22,7 @@ use Rattle.components.specs.Answers.{list_of, numbers_of}
 use Rattle.components.specs.declared.Listed.TheVariants.{Count, Refused as ListRefused}
 
 module _ (s l a lengths : List ℕ) where
-  pub list_count : slices_of s l a lengths ≡ Passed → list_of s l a lengths ≡ Count (count (heads (graph_of s l) (anchored_by a)) (below (vertices s))) (size_of s l)
+  pub list_count : slices_of s l a lengths ≡ clear → list_of s l a lengths ≡ Count (count (heads (graph_of s l) (anchored_by a)) (below (vertices s))) (size_of s l)
   unfolding list_of
   list_count e = cleared _ _ e
 
@@ -31,8 +32,8 @@ module _ (s l a lengths : List ℕ) where
   list_length {c} {size} h = by_answer (slices_of s l a lengths) refl
     where
       by_answer : (w : Guard) → slices_of s l a lengths ≡ w → c ≡ length (numbers_of s l a)
-      by_answer Passed e =
+      by_answer clear e =
           let same : Count c size ≡ Count (count (heads (graph_of s l) (anchored_by a)) (below (vertices s))) (size_of s l) = sym h ∙ list_count e in
           let counted : c ≡ count (heads (graph_of s l) (anchored_by a)) (below (vertices s)) = cc in
           counted ∙ sym (ranked-length (graph_of s l) (simple (slices-sound s l a lengths e).0.table) (anchored_by a))
-      by_answer (Refused x) e = let other : ListRefused x ≡ Count c size = sym (handed _ _ e) ∙ h in let z : ◌≡◌ {A = ℕ} 0 1 = cc in absurd (omega arith)
+      by_answer (Err x) e = let other : ListRefused x ≡ Count c size = sym (handed _ _ e) ∙ h in let z : ◌≡◌ {A = ℕ} 0 1 = cc in absurd (omega arith)

@@ -15,7 +15,7 @@ use Rattle.finite.proofs.Count.{length-tabulate, tabulate-at}
 use Rattle.table.specs.Table.{vertices, neighbors, wrong_end, wrong_step, bad_start, check_of, Framed, SoundTable}
 use Rattle.table.specs.Size.{size_of}
 use Rattle.table.specs.Guard.{refused}
-use Rattle.table.specs.declared.Guard.TheVariants.{Passed}
+use Rattle.table.specs.Guard.{clear}
 use Rattle.table.proofs.Laws.{neighbors-length, went_on, ends, sound, found-sound}
 use Rattle.table.proofs.Edges.{degrees-below, handshake}
 use Rattle.table.proofs.Numbers.{Between, between_next, between_check}
@@ -60,7 +60,7 @@ unfolding check_lent
 links_decide s l some small places last = rw (ne_eqb (length s) 0 some, le-ltb 1024 (vertices s) small, eq-eqb (length l) 16384 places, le-ltb 16384 (last_start s) last)
 
 -- what passes it went past each refusal
-went : (s l : List ℕ) → check_lent s l ≡ Passed → (length l ≡ 16384) × (last_start s ≤ 16384) × (check_of s (take (last_start s) l) ≡ Passed)
+went : (s l : List ℕ) → check_lent s l ≡ clear → (length l ≡ 16384) × (last_start s ≤ 16384) × (check_of s (take (last_start s) l) ≡ clear)
 unfolding check_lent
 went s l e =
     let some = went_on (eqb (length s) 0) 1 0 _ e in
@@ -69,11 +69,11 @@ went s l e =
     let last = went_on (ltb 16384 (last_start s)) 3 0 _ places.1 in
     (eqb-true (length l) 16384 (not-false (eqb (length l) 16384) places.0), ltb-false 16384 (last_start s) last.0, last.1)
 
-module _ (s l : List ℕ) (passed : check_lent s l ≡ Passed) where
+module _ (s l : List ℕ) (passed : check_lent s l ≡ clear) where
   abbrev links : List ℕ
   links = take (last_start s) l
 
-  abbrev past : (length l ≡ 16384) × (last_start s ≤ 16384) × (check_of s links ≡ Passed)
+  abbrev past : (length l ≡ 16384) × (last_start s ≤ 16384) × (check_of s links ≡ clear)
   past = went s l passed
 
   links-sound : SoundTable s links
@@ -169,12 +169,12 @@ module _ {s l : List ℕ} {G : Graph} (table : Tabled s l G) where
   well_started i h = rw (right_end i, right-step i h)
 
   -- the links alone are a table as document 01 has it
-  pub tabled_check : check_of s (take (last_start s) l) ≡ Passed
+  pub tabled_check : check_of s (take (last_start s) l) ≡ clear
   tabled_check = found-sound s cut well_started
       (other-sound f cut (omega (arith, cut-long)) (λ i h. get_or-take (last_start s) l i 0 h) table.sound (omega (arith, cut-long, most, table.places)))
 
   -- and the table may be lent again
-  pub tabled_passes : check_lent s l ≡ Passed
+  pub tabled_passes : check_lent s l ≡ clear
   tabled_passes =
       links_decide s l (λ e. absurd (omega (arith, f.some))) table.sound.small table.places (omega (arith, most, table.places)) ∙ tabled_check
 

@@ -6,8 +6,8 @@ use Rattle.finite.specs.Search.{any, all, first_from, first, ascending}
 use Rattle.finite.specs.Edits.{insert, remove}
 use Rattle.table.specs.Table.{neighbors, bad_start, beyond, looped, unsorted, unreturned, check_of}
 use Rattle.table.specs.Guard.{refused}
-use Rattle.table.specs.declared.Guard.{Guard}
-use Rattle.table.specs.declared.Guard.TheVariants.{Passed}
+use Rattle.table.specs.Guard.{Guard}
+use Rattle.table.specs.Guard.{clear}
 use Rattle.anchored.specs.Graph.{Graph}
 use Rattle.anchored.specs.Edge.{with_edge, without_edge, link_count}
 use Rattle.pool.specs.Input.{graph_of}
@@ -40,8 +40,8 @@ answers :
     ∷ check_lent (0 ∷ 1 ∷ 3 ∷ 5 ∷ 7 ∷ []) (lent links)
     ∷ check_lent (0 ∷ 1 ∷ 3 ∷ 5 ∷ 5 ∷ []) (lent links)
     ∷ [])
-    (Passed
-    ∷ Passed
+    (clear
+    ∷ clear
     ∷ refused 1 0
     ∷ refused 2 0
     ∷ refused 12 0

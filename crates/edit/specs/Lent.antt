@@ -2,7 +2,7 @@
 use Rattle.std.specs.Prelude.{not, cond, List, ℕ, length, take, get_or, ltb, eqb}
 use Rattle.table.specs.Table.{vertices, check_of}
 use Rattle.table.specs.Guard.{refused}
-use Rattle.table.specs.declared.Guard.{Guard}
+use Rattle.table.specs.Guard.{Guard}
 use Rattle.edit.specs.Edit.{last_start}
 
 -- 1 and 2 as ever, 12 for link places that are not exactly 16,384, 3 for a last start above 16,384, then 4 to 8 on the links up to the last start

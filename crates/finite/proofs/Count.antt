@@ -1,4 +1,5 @@
 -- Laws of tables, membership and counts. Assumes nothing.
+use Rattle.std.specs.List.{filter}
 use mathlib.Core.Path.{◌≡◌, refl, sym, ap, ◌∙◌, subst}
 use mathlib.Core.Logic.{◌↔◌, ◌⊎◌, inl, inr, ⊎_elim}
 use mathlib.Core.Bool.{Bool, true, false, not, ◌&&◌, ◌||◌, cond}
@@ -488,3 +489,12 @@ unfolding sum
 sum_term f x [] i = absurd i
 sum_term f x (u ∷ us) (inl e) = rw e (omega arith)
 sum_term f x (u ∷ us) (inr i) = omega (arith, sum_term f x us i)
+
+-- as many numbers pass a test as `filter` keeps
+pub length-filter : (p : ℕ → Bool) (xs : List ℕ) → length (filter p xs) ≡ count p xs
+unfolding count
+length-filter p [] = refl
+length-filter p (x ∷ xs) =
+    split (p x)
+    (λ t. rw (true_of (p x) t) (ap suc (length-filter p xs) ∙ omega arith))
+    (λ f. rw (false_of (p x) f) (length-filter p xs ∙ omega arith))

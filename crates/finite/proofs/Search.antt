@@ -3,15 +3,22 @@ use mathlib.Core.Path.{◌≡◌, refl, sym, ap, ap₂, ◌∙◌, subst}
 use mathlib.Core.Logic.{inl, inr, ⊎_elim}
 use mathlib.Core.Bool.{Bool, true, false, not, cond, ◌&&◌, ◌||◌, or-false, or_assoc}
 use mathlib.Core.List.{List, [], ◌∷◌, ◌++◌}
-use Prim.Native.Nat.{ℕ, zero, suc, ◌+◌, ◌-◌, ◌≤◌, ◌<◌, zero-le}
+use Prim.Native.Nat.{ℕ, zero, suc, ◌+◌, ◌-◌, ◌≤◌, ◌<◌, zero-le, max}
 use native.Mathlib.Nat.{eq-or-lt_of_le}
 use native.Mathlib.Numerals.{add-one}
 use native.Mathlib.Omega.{arith}
 use lib.ListN.{length, take, get_or}
 use lib.Seq.{take-suc}
 use lib.Dec.{T, leb, ltb, eqb, leb→le, le→leb, ltb→lt, nleb→lt, nltb→le, T_not, not_T, eqb→eq, eqb_refl}
+use Rattle.std.specs.Prelude.{Option, Some, None, Result, Ok, Err, is_ok, MatchResult}
+use Rattle.std.specs.Option.{option_map}
+use Rattle.std.specs.List.{find, range_with_len, position_or_len, IsAllAdjacentAnswer}
+use Rattle.std.specs.List.Sorted.{IsBinarySearchResult}
+use Rattle.std.specs.Ordering.{nat_cmp}
+use Rattle.std.proofs.lemmas.List.Sorted.{searched}
+use borrow.Author.Tests.{lt-ltb, le-ltb, eq-eqb, ne_eqb}
 use Rattle.finite.specs.Count.{bit, below, count, sum, In, Distinct, tabulate}
-use Rattle.finite.specs.Search.{any, all, member, first_from, first, largest, greatest_of, NoneBelow, NoneFrom, rises, ascending}
+use Rattle.finite.specs.Search.{any, all, member, first_from, first, found, largest, greatest_of, NoneBelow, NoneFrom, rises, ascending}
 use Rattle.finite.proofs.Tests.{and_i, and_l, and_r, or_l, or_r, or-e, split, same, true_of, false_of, of_true, of_false, eqb_of, neqb}
 use Rattle.finite.proofs.Ordered.{ordered_of, ordered-distinct}
 use Rattle.finite.proofs.Count.{bit_yes, bit_no, in_at, at_in, in_append, in_below, count-some, count_cong, count_witness, count_strict, count_none, count-or, distinct-below}
@@ -267,6 +274,56 @@ module _ (p : ℕ → Bool) where
       (λ e. subst (λ z. T (p z)) (sym (eqb→eq (first p n) n e)) t)
       (λ e. first_passes n (let ne : (first p n ≡ n → ⊥) = neqb (first p n) n e in omega (arith, first-le n)))
 
+-- ---- the lowest index as the library's searches answer it
+
+find-from : (p : ℕ → Bool) (n a : ℕ) → find p (range_with_len a n) ≡ cond (ltb (first_from p n a) (a + n)) (Some (first_from p n a)) None
+unfolding first_from
+find-from p zero a = rw (le-ltb a (a + 0) (omega arith))
+find-from p (suc n) a =
+    let more : suc a + n ≡ a + suc n = omega arith in
+    split (p a)
+    (λ t. rw (true_of (p a) t, lt-ltb a (a + suc n) (omega arith)))
+    (λ f. rw (false_of (p a) f, add-one) (find-from p n (suc a) ∙ rw more))
+
+-- `find` over the numbers below a bound
+pub find-found : (p : ℕ → Bool) (n : ℕ) → find p (range_with_len 0 n) ≡ found p n
+unfolding first
+find-found p n = let zero_more : 0 + n ≡ n = omega arith in rw zero_more at (find-from p n 0)
+
+-- as the library's lemma on `find` states it
+pub found-by : (p : ℕ → Bool) (n : ℕ) (r : Option ℕ) → option_map (λ x. x) r ≡ find p (range_with_len 0 n) → r ≡ found p n
+found-by p n (Some v) e = e ∙ find-found p n
+found-by p n None e = e ∙ find-found p n
+
+-- at a list with one number more in front each place is one more
+place_shift : (p : ℕ → Bool) (x : ℕ) (xs : List ℕ) (n i : ℕ) → first_from (λ j. p (get_or (x ∷ xs) j 0)) n (suc i) ≡ suc (first_from (λ j. p (get_or xs j 0)) n i)
+unfolding first_from
+place_shift p x xs zero i = refl
+place_shift p x xs (suc n) i =
+    split (p (get_or xs i 0))
+    (λ t. rw (true_of (p (get_or xs i 0)) t))
+    (λ f. rw (false_of (p (get_or xs i 0)) f) (place_shift p x xs n (suc i)))
+
+place-first : (p : ℕ → Bool) (xs : List ℕ) → position_or_len p xs ≡ first (λ i. p (get_or xs i 0)) (length xs)
+unfolding first first_from
+place-first p [] = refl
+place-first p (x ∷ xs) =
+    let one : 1 + position_or_len p xs ≡ suc (position_or_len p xs) = omega arith in
+    split (p x)
+    (λ t. rw (true_of (p x) t))
+    (λ f. rw (false_of (p x) f) (one ∙ ap suc (place-first p xs) ∙ sym (place_shift p x xs (length xs) 0)))
+
+-- a loop over the indices below a bound: one passes, or none does
+pub found_hit : (p : ℕ → Bool) (n i : ℕ) → NoneBelow p i → i < n → p i ≡ true → found p n ≡ Some i
+found_hit p n i none h hit = rw (first_hit p n i none h hit, lt-ltb i n h)
+
+pub found_none : (p : ℕ → Bool) (n : ℕ) → NoneBelow p n → found p n ≡ None
+found_none p n none = rw (first-none p n none, le-ltb n n (omega arith))
+
+-- `position` over a slice
+pub position-found : (p : ℕ → Bool) (xs : List ℕ) → cond (ltb (position_or_len p xs) (length xs)) (Some (position_or_len p xs)) None ≡ found (λ i. p (get_or xs i 0)) (length xs)
+position-found p xs = rw (place-first p xs)
+
 -- equal tests have the same lowest index
 pub first_cong : (p q : ℕ → Bool) (n : ℕ) → ((v : ℕ) → v < n → p v ≡ q v) → first p n ≡ first q n
 first_cong p q n e =
@@ -400,3 +457,22 @@ module _ (f : ℕ → ℕ) where
 
   pub greatest_same : (n : ℕ) → f n ≤ greatest_of f n → greatest_of f (n + 1) ≡ greatest_of f n
   greatest_same n h = rw add-one (greatest_by (λ m. m ≡ greatest_of f n) n (λ more. absurd (omega arith)) (λ less. refl))
+
+  pub greatest_max : (n : ℕ) → greatest_of f (n + 1) ≡ max (greatest_of f n) (f n)
+  greatest_max n = rw add-one (greatest_by (λ m. m ≡ max (greatest_of f n) (f n)) n (λ more. omega arith) (λ less. omega arith))
+
+-- ascending as the library's `is_sorted_by` answers it
+pub adjacent-ascending : (xs : List ℕ) (r : Bool) → IsAllAdjacentAnswer (λ x y b. b ≡ ltb x y) xs r → r ≡ ascending xs
+unfolding ascending
+adjacent-ascending xs true h = sym (all-below_yes (rises xs) (length xs - 1) (λ v less. sym (h v 0 (omega arith))))
+adjacent-ascending xs false h = sym (all-below_no (rises xs) (length xs - 1) h.0 (omega (arith, h.1)) (sym (h.2 0)))
+
+-- membership as its `binary_search` answers it
+pub searched-member : (xs : List ℕ) (x : ℕ) (r : Result ℕ ℕ) → T (ascending xs) → IsBinarySearchResult (λ y. nat_cmp y x) xs r → is_ok r ≡ member x xs
+searched-member xs x r t h = go r (searched xs x r h (λ i j le less. ⊎_elim (λ e. rw e (omega arith)) (λ lt. omega (arith, ascending-lt xs t i j lt less)) (eq-or-lt_of_le le)))
+  where
+    go : (r : Result ℕ ℕ) → MatchResult r (λ i. (i < length xs) × (get_or xs i 0 ≡ x)) (λ i. (i ≤ length xs) × ((k : ℕ) → k < i → get_or xs k 0 < x) × ((k : ℕ) → i ≤ k → k < length xs → x < get_or xs k 0)) → is_ok r ≡ member x xs
+    go (Ok i) found = sym (any_at (eqb x) xs i found.0 (eq-eqb x (get_or xs i 0) (sym found.1)))
+    go (Err i) parted = sym (any_none (eqb x) xs (λ k less. ne_eqb x (get_or xs k 0) (λ e. split (leb i k)
+        (λ q. omega (arith, parted.2 k (leb→le i k q) less))
+        (λ q. omega (arith, parted.1 k (omega (arith, nleb→lt i k q)))))))

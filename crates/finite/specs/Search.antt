@@ -1,5 +1,5 @@
 -- Searches: whether some or all numbers of a list pass a test, the lowest index that does, the largest; the greatest value. The laws are in proofs/Search.
-use Rattle.std.specs.Prelude.{◌≡◌, Bool, true, false, cond, ◌&&◌, ◌||◌, List, [], ◌∷◌, ℕ, zero, suc, ◌+◌, ◌-◌, ◌≤◌, ◌<◌, length, get_or, ltb, eqb}
+use Rattle.std.specs.Prelude.{◌≡◌, Bool, true, false, cond, ◌&&◌, ◌||◌, Option, Some, None, List, [], ◌∷◌, ℕ, zero, suc, ◌+◌, ◌-◌, ◌≤◌, ◌<◌, length, get_or, ltb, eqb}
 use Rattle.finite.specs.Count.{below}
 
 unfoldable pub any : (ℕ → Bool) → List ℕ → Bool
@@ -22,6 +22,10 @@ first_from p (suc k) i = cond (p i) i (first_from p k (suc i))
 -- the lowest index below n that passes; n if none does
 unfoldable pub first : (ℕ → Bool) → ℕ → ℕ
 first p n = first_from p n 0
+
+-- that index, or none
+abbrev pub found : (ℕ → Bool) → ℕ → Option ℕ
+found p n = cond (ltb (first p n) n) (Some (first p n)) None
 
 -- the largest index up to m that passes; 0 if none does
 unfoldable pub largest : (ℕ → Bool) → ℕ → ℕ

@@ -10,7 +10,7 @@ use borrow.Author.Tests.{le-ltb, ltb-false, leb-false}
 use Rattle.finite.specs.Search.{all, first}
 use Rattle.finite.proofs.Search.{first-le, none_of}
 use Rattle.table.specs.Table.{vertices, check_of, SoundTable}
-use Rattle.table.specs.declared.Guard.TheVariants.{Passed}
+use Rattle.table.specs.Guard.{clear}
 use Rattle.table.specs.declared.size.Size.{Size}
 use Rattle.table.proofs.Guards.{both-passed}
 use Rattle.table.proofs.Laws.{went_on, sound}
@@ -27,7 +27,7 @@ use Rattle.first_day.specs.declared.Dated.TheVariants.{Never}
 use Rattle.first_day.specs.Cases.{refusals}
 
 -- lists that are not refused are of one length, of vertices, and x is one
-pub lists-told : (n : ℕ) (vs fs es : List ℕ) (x : ℕ) → lists_of n vs fs es x ≡ Passed → TermsBelow n (terms vs fs es) × (x < n)
+pub lists-told : (n : ℕ) (vs fs es : List ℕ) (x : ℕ) → lists_of n vs fs es x ≡ clear → TermsBelow n (terms vs fs es) × (x < n)
 unfolding lists_of
 lists-told n vs fs es x e =
     let m = length vs in
@@ -45,7 +45,7 @@ lists-told n vs fs es x e =
       leb-false n x asked.0,
     )
 
-module _ (s l vs fs es : List ℕ) (x : ℕ) (e : first_day_of s l vs fs es x ≡ Passed) where
+module _ (s l vs fs es : List ℕ) (x : ℕ) (e : first_day_of s l vs fs es x ≡ clear) where
   -- a call that is not refused is handed a sound table, terms of its vertices, and a vertex
   pub call_told : SoundTable s l × TermsBelow (vertices s) (terms vs fs es) × (x < vertices s)
   unfolding first_day_of

@@ -3,8 +3,8 @@ use Rattle.std.specs.Prelude.{Bool, cond, List, [], ◌∷◌, ℕ, length, get_
 use Rattle.finite.specs.Search.{all, first}
 use Rattle.table.specs.Table.{vertices, check_of}
 use Rattle.table.specs.Guard.{refused, refuse, past}
-use Rattle.table.specs.declared.Guard.{Guard}
-use Rattle.table.specs.declared.Guard.TheVariants.{Passed}
+use Rattle.table.specs.Guard.{Guard}
+use Rattle.table.specs.Guard.{clear}
 use Rattle.table.specs.declared.size.Size.{Size}
 use Rattle.pool.specs.Lengths.{outside}
 use Rattle.first_day.specs.declared.Dated.{Dated}
@@ -20,7 +20,7 @@ vertices_of n vs x rest = let i = first (outside n vs) (length vs) in cond (ltb 
 
 -- 24 for more than 256 terms; 25 for the first whose end is not after its first day, at its position
 abbrev pub spans_of : List ℕ → List ℕ → List ℕ → Guard
-spans_of vs fs es = cond (ltb 256 (length vs)) (refused 24 0) (refuse 25 (empty_term fs es) (length fs) Passed)
+spans_of vs fs es = cond (ltb 256 (length vs)) (refused 24 0) (refuse 25 (empty_term fs es) (length fs) clear)
 
 -- 9 for lists that are not of one length, then 15, 24 and 25
 unfoldable pub lists_of : ℕ → List ℕ → List ℕ → List ℕ → ℕ → Guard

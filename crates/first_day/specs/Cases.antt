@@ -2,8 +2,8 @@
 use Rattle.std.specs.Prelude.{◌≡◌, refl, List, [], ◌∷◌, ◌++◌, ℕ, replicate}
 use Rattle.finite.specs.Search.{all, first_from, first}
 use Rattle.table.specs.Guard.{refused}
-use Rattle.table.specs.declared.Guard.{Guard}
-use Rattle.table.specs.declared.Guard.TheVariants.{Passed}
+use Rattle.table.specs.Guard.{Guard}
+use Rattle.table.specs.Guard.{clear}
 use Rattle.first_day.specs.Answers.{lists_of}
 
 -- as many terms of vertex 0, from day 1 up to day 2
@@ -30,9 +30,9 @@ pub refusals :
     ∷ lists_of 4 (0 ∷ []) (5 ∷ []) (5 ∷ []) 3
     ∷ lists_of 4 (0 ∷ []) (65535 ∷ []) (65535 ∷ []) 3
     ∷ [])
-    (Passed
-    ∷ Passed
-    ∷ Passed
+    (clear
+    ∷ clear
+    ∷ clear
     ∷ refused 9 0
     ∷ refused 9 0
     ∷ refused 15 9

@@ -13,7 +13,7 @@ use Rattle.finite.specs.Search.{all}
 use Rattle.finite.proofs.Tests.{not-or, neqb, false_of, of_false}
 use Rattle.table.specs.Table.{vertices, check_of}
 use Rattle.table.specs.Guard.{front}
-use Rattle.table.specs.declared.Guard.TheVariants.{Passed}
+use Rattle.table.specs.Guard.{clear}
 use Rattle.table.proofs.Guards.{both-passed}
 use Rattle.table.proofs.Laws.{went_on, went_past, sound}
 use Rattle.anchored.specs.Houses.{Picks, Fair, house_choice}
@@ -45,7 +45,7 @@ pub record Housed (s l a house quotas : List ℕ) (room : ℕ) : Type 0 where
   pub within : (v : ℕ) → v < vertices s → get_or house v 0 < length quotas
   pub enough : quota_sum quotas * (48 + vertices s) ≤ room
 
-module _ (s l a house quotas : List ℕ) (room : ℕ) (e : houses_of s l a house quotas room ≡ Passed) where
+module _ (s l a house quotas : List ℕ) (room : ℕ) (e : houses_of s l a house quotas room ≡ clear) where
   pub call_told : Housed s l a house quotas room
   unfolding houses_of members_of quotas_of
   call_told =
@@ -60,7 +60,7 @@ module _ (s l a house quotas : List ℕ) (room : ℕ) (e : houses_of s l a house
       let number = not-or (eqb houses 0) (ltb 16 houses) (of_false (eqb houses 0 || ltb 16 houses) count.0) in
       let other = neqb houses 0 number.0 in
       let within = went_past 27 (outside houses house) (length house) _ count.1 in
-      let space = went_on (ltb room (quota_sum quotas * (48 + n))) 12 0 Passed within.1 in
+      let space = went_on (ltb room (quota_sum quotas * (48 + n))) 12 0 clear within.1 in
       let of : (k : ℕ) → _ → k ≡ n = each n lengths alike.0 in
       let bytes-n = of (length a) (inl refl) in
       let houses-n = of (length house) (inr (inl refl)) in
@@ -99,7 +99,7 @@ unfolding quota_sum sum below tabulate
 sum_alone r = omega arith
 
 -- one house with quota r gives the ordinary sheet of r rounds
-pub one-house : (s l a house : List ℕ) (r room : ℕ) → houses_of s l a house (r ∷ []) room ≡ Passed → shared_sheet s l a house (r ∷ []) ≡ sheet_of (vertices s) (rounds_of (graph_of s l) (anchored_by a) r)
+pub one-house : (s l a house : List ℕ) (r room : ℕ) → houses_of s l a house (r ∷ []) room ≡ clear → shared_sheet s l a house (r ∷ []) ≡ sheet_of (vertices s) (rounds_of (graph_of s l) (anchored_by a) r)
 unfolding shared_sheet
 one-house s l a house r room e =
     let told = call_told s l a house (r ∷ []) room e in

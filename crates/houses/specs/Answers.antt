@@ -4,8 +4,8 @@ use Rattle.finite.specs.Count.{sum, below}
 use Rattle.finite.specs.Search.{all}
 use Rattle.table.specs.Table.{vertices, check_of}
 use Rattle.table.specs.Guard.{refused, refuse, past}
-use Rattle.table.specs.declared.Guard.{Guard}
-use Rattle.table.specs.declared.Guard.TheVariants.{Passed}
+use Rattle.table.specs.Guard.{Guard}
+use Rattle.table.specs.Guard.{clear}
 use Rattle.pool.specs.Input.{graph_of, anchored_by}
 use Rattle.pool.specs.Lengths.{outside}
 use Rattle.sheet.specs.Line.{sheet_of}
@@ -23,7 +23,7 @@ quotas_of n house quotas room = let houses = length quotas in
     cond (ltb 60 (quota_sum quotas)) (refused 11 0)
     (cond (eqb houses 0 || ltb 16 houses) (refused 26 0)
     (refuse 27 (outside houses house) (length house)
-    (cond (ltb room (quota_sum quotas * (48 + n))) (refused 12 0) Passed)))
+    (cond (ltb room (quota_sum quotas * (48 + n))) (refused 12 0) clear)))
 
 -- 9 for bytes or a list of houses not n, 10 for a byte above 1, then the rest
 unfoldable pub members_of : ℕ → List ℕ → List ℕ → List ℕ → ℕ → Guard

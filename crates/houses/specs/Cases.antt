@@ -3,8 +3,8 @@ use Rattle.std.specs.Prelude.{◌≡◌, refl, List, [], ◌∷◌, ℕ, replica
 use Rattle.finite.specs.Count.{sum, below, tabulate}
 use Rattle.finite.specs.Search.{all, first_from, first}
 use Rattle.table.specs.Guard.{refused}
-use Rattle.table.specs.declared.Guard.{Guard}
-use Rattle.table.specs.declared.Guard.TheVariants.{Passed}
+use Rattle.table.specs.Guard.{Guard}
+use Rattle.table.specs.Guard.{clear}
 use Rattle.houses.specs.Answers.{quota_sum, quotas_of, members_of}
 
 -- no vertex anchored, and as much room as 60 lines need
@@ -37,11 +37,11 @@ pub refusals :
     ∷ members_of 4 (replicate 4 0) one (3 ∷ []) 155
     ∷ members_of 4 (replicate 4 0) one (3 ∷ []) 156
     ∷ [])
-    (Passed
-    ∷ Passed
-    ∷ Passed
-    ∷ Passed
-    ∷ Passed
+    (clear
+    ∷ clear
+    ∷ clear
+    ∷ clear
+    ∷ clear
     ∷ refused 9 0
     ∷ refused 9 0
     ∷ refused 9 0
@@ -53,7 +53,7 @@ pub refusals :
     ∷ refused 26 0
     ∷ refused 27 2
     ∷ refused 12 0
-    ∷ Passed
+    ∷ clear
     ∷ [])
 unfolding members_of quotas_of quota_sum sum below tabulate all first first_from
 refusals = refl

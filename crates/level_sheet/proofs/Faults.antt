@@ -10,8 +10,8 @@ use Rattle.finite.specs.Search.{NoneBelow}
 use Rattle.finite.proofs.Tests.{split, true_of, false_of}
 use Rattle.finite.proofs.Search.{first_hit}
 use Rattle.table.specs.Guard.{refused, refuse}
-use Rattle.table.specs.declared.Guard.{Guard}
-use Rattle.table.specs.declared.Guard.TheVariants.{Passed}
+use Rattle.table.specs.Guard.{Guard}
+use Rattle.table.specs.Guard.{clear}
 use Rattle.table.proofs.Laws.{hit, pass}
 use Rattle.level_sheet.specs.Faults.{Lowest}
 
@@ -52,7 +52,7 @@ module _ (f : ℕ → ℕ) where
 
 -- the answer that a fault gives
 abbrev pub answer_by : ℕ → ℕ → Guard
-answer_by number place = cond (eqb number 65535) Passed (refused number place)
+answer_by number place = cond (eqb number 65535) clear (refused number place)
 
 -- the tests that f numbers, all from low on, give the answer of its lowest value
 pub record Numbered (low : ℕ) (f : ℕ → ℕ) (n : ℕ) (answer : Guard) : Type 0 where
@@ -61,7 +61,7 @@ pub record Numbered (low : ℕ) (f : ℕ → ℕ) (n : ℕ) (answer : Guard) : T
   pub decides : (number place : ℕ) → Lowest f n number place → answer ≡ answer_by number place
 
 -- without a test nothing is refused
-pub numbered-none : (n : ℕ) → Numbered 65535 (λ v. 65535) n Passed
+pub numbered-none : (n : ℕ) → Numbered 65535 (λ v. 65535) n clear
 numbered-none n = record {
   small = omega arith;
   above = λ v. omega arith;

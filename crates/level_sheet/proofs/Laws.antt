@@ -13,8 +13,9 @@ use Rattle.finite.specs.Search.{first, NoneBelow}
 use Rattle.finite.proofs.Tests.{or-e, false_of, of_false}
 use Rattle.table.specs.Table.{vertices, SoundTable}
 use Rattle.table.specs.Guard.{refused, number_of, refuse, answer, past}
-use Rattle.table.specs.declared.Guard.{Guard}
-use Rattle.table.specs.declared.Guard.TheVariants.{Passed, Refused}
+use Rattle.table.specs.Guard.{Guard}
+use Rattle.table.specs.Guard.{clear}
+use Rattle.std.specs.Prelude.{Ok, Err}
 use Rattle.table.proofs.Guards.{both-passed, cleared}
 use Rattle.table.proofs.Laws.{went_on, went_past, nothing, pass}
 use Rattle.table.proofs.Numbers.{Between, between_sound, between_next, between_found, between_past, zero-sound}
@@ -63,7 +64,7 @@ module _ (s l a lev lay : List ℕ) where
 
   -- the answer from each of them on
   abbrev from_late : Guard
-  from_late = refuse 21 late n Passed
+  from_late = refuse 21 late n clear
 
   abbrev from_low : Guard
   from_low = refuse 20 low n from_late
@@ -101,7 +102,7 @@ module _ (s l a lev lay : List ℕ) where
   -- ---- acceptance
 
   -- a sheet that passes the four tests is exactly the defined one
-  pub accepted : SoundTable s l → sheet_of s l a lev lay ≡ Passed → Accepted s l a lev lay
+  pub accepted : SoundTable s l → sheet_of s l a lev lay ≡ clear → Accepted s l a lev lay
   unfolding sheet_of
   accepted table e =
       let first-half = went_on _ _ _ _ e in
@@ -109,7 +110,7 @@ module _ (s l a lev lay : List ℕ) where
       let past-out = went_past 14 out n from_high second-half.1 in
       let past-high = went_past 19 high n from_low past-out.1 in
       let past-low = went_past 20 low n from_late past-high.1 in
-      let past-late = went_past 21 late n Passed past-low.1 in
+      let past-late = went_past 21 late n clear past-low.1 in
       let fitting : Local (graph_of s l) (anchored_by a) levels layers = fits_local (graph_of s l) (anchored_by a) levels layers (λ v h.
       fits_all (graph_of s l) (anchored_by a) levels layers v
       (of_false (out v) (past-out.0 v h)) (of_false (high v) (past-high.0 v h)) (of_false (low v) (past-low.0 v h)) (of_false (late v) (past-late.0 v h))) in
@@ -121,7 +122,7 @@ module _ (s l a lev lay : List ℕ) where
         layers_hold = λ v h. (each v h).1;
       }
 
-  pub accepts : SoundTable s l → Accepted s l a lev lay → sheet_of s l a lev lay ≡ Passed
+  pub accepts : SoundTable s l → Accepted s l a lev lay → sheet_of s l a lev lay ≡ clear
   accepts table h =
       let agrees = (local_agree (graph_of s l) (simple table) (anchored_by a) levels layers).1 (λ v b. (h.levels_hold v b, h.layers_hold v b)) in
       let each : (v : ℕ) → v < n → T (not (out v)) × T (not (high v)) × T (not (low v)) × T (not (late v))
@@ -130,7 +131,7 @@ module _ (s l a lev lay : List ℕ) where
       ∙ pass 14 out n from_high (λ v b. false_of (out v) (each v b).0)
       ∙ pass 19 high n from_low (λ v b. false_of (high v) (each v b).1)
       ∙ pass 20 low n from_late (λ v b. false_of (low v) (each v b).2)
-      ∙ pass 21 late n Passed (λ v b. false_of (late v) (each v b).3)
+      ∙ pass 21 late n clear (λ v b. false_of (late v) (each v b).3)
 
   -- ---- the numbers
 
@@ -142,7 +143,7 @@ module _ (s l a lev lay : List ℕ) where
       (between_found 1 21 14 out n from_high (omega arith) (omega arith)
       (between_found 1 21 19 high n from_low (omega arith) (omega arith)
       (between_found 1 21 20 low n from_late (omega arith) (omega arith)
-      (between_found 1 21 21 late n Passed (omega arith) (omega arith) (between_sound 1 21))))))
+      (between_found 1 21 21 late n clear (omega arith) (omega arith) (between_sound 1 21))))))
 
   between_checked : Between 1 21 (check_sheet_of s l a lev lay)
   unfolding check_sheet_of
@@ -151,14 +152,14 @@ module _ (s l a lev lay : List ℕ) where
   -- ---- what an answer tells
 
   -- exactly the defined sheet of an admitted input is accepted
-  check_defined : (number_of (check_sheet_of s l a lev lay) ≡ 0) ↔ ((admit_of s l a ≡ Passed) × Accepted s l a lev lay)
+  check_defined : (number_of (check_sheet_of s l a lev lay) ≡ 0) ↔ ((admit_of s l a ≡ clear) × Accepted s l a lev lay)
   unfolding check_sheet_of
   check_defined = (
     λ e.
         let r = both-passed (admit_of s l a) (sheet_of s l a lev lay) (zero-sound (check_sheet_of s l a lev lay) 21 between_checked e) in
         (r.0, accepted (admitted s l a r.0).table r.1),
     λ h.
-        let e : check_sheet_of s l a lev lay ≡ Passed = cleared _ _ h.0 ∙ accepts (admitted s l a h.0).table h.1 in
+        let e : check_sheet_of s l a lev lay ≡ clear = cleared _ _ h.0 ∙ accepts (admitted s l a h.0).table h.1 in
         ap number_of e,
   )
 
@@ -183,11 +184,11 @@ module _ (s l a lev lay : List ℕ) where
           (λ u. omega (arith, eqb→eq k 21 u))
 
       go : (c : Guard) → admit_of s l a ≡ c → T (bounds (number_of (past c (sheet_of s l a lev lay)))) → (v : ℕ) → v < n → get_or lev v 0 ≤ level (graph_of s l) (anchored_by a) v
-      go Passed e t =
+      go (Ok tt) e t =
           let tests = past-high t in
           nowhere_overstated (graph_of s l) (simple (admitted s l a e).table) (anchored_by a) levels layers
           (λ v h. of_false (out v) (tests.0 v h)) (λ v h. of_false (high v) (tests.1 v h))
-      go (Refused r) e t = let range = between_admit s l a 1 10 (omega arith) (omega arith) r e in absurd (unbounded r.number range.0 range.1 t)
+      go (Err r) e t = let range = between_admit s l a 1 10 (omega arith) (omega arith) r e in absurd (unbounded r.number range.0 range.1 t)
 
   pub check_tells : {guard : Guard} → check_sheet_of s l a lev lay ≡ guard → Tells s l a lev lay (number_of guard)
   check_tells e = subst (λ g. Tells s l a lev lay (number_of g)) e (record { defined = check_defined; bounded = overstates_nobody })

@@ -5,8 +5,8 @@ use Rattle.finite.specs.Search.{any, all, first_from, first, ascending}
 use Rattle.finite.specs.Pairs.{pair_le}
 use Rattle.table.specs.Table.{neighbors, bad_start, beyond, looped, unsorted, unreturned, check_of}
 use Rattle.table.specs.Guard.{refused, answer}
-use Rattle.table.specs.declared.Guard.{Guard}
-use Rattle.table.specs.declared.Guard.TheVariants.{Passed}
+use Rattle.table.specs.Guard.{Guard}
+use Rattle.table.specs.Guard.{clear}
 use Rattle.anchored.specs.Sheet.{misplaced, too_high, too_low, too_late}
 use Rattle.pool.specs.Input.{admit_of}
 use Rattle.level_sheet.specs.SheetCheck.{sheet_of, check_sheet_of}
@@ -27,7 +27,7 @@ none = 0 ∷ 0 ∷ 0 ∷ 0 ∷ []
 
 pub cases :
     -- the defined sheet, without anchors and with two
-    (chain none (1 ∷ 1 ∷ 1 ∷ 1 ∷ []) (1 ∷ 2 ∷ 2 ∷ 1 ∷ []) ∷ chain (1 ∷ 0 ∷ 0 ∷ 1 ∷ []) (65535 ∷ 2 ∷ 2 ∷ 65535 ∷ []) (0 ∷ 1 ∷ 1 ∷ 0 ∷ []) ∷ [] ≡ Passed ∷ Passed ∷ [])
+    (chain none (1 ∷ 1 ∷ 1 ∷ 1 ∷ []) (1 ∷ 2 ∷ 2 ∷ 1 ∷ []) ∷ chain (1 ∷ 0 ∷ 0 ∷ 1 ∷ []) (65535 ∷ 2 ∷ 2 ∷ 65535 ∷ []) (0 ∷ 1 ∷ 1 ∷ 0 ∷ []) ∷ [] ≡ clear ∷ clear ∷ [])
     -- 13: either half too short
     × (chain none (1 ∷ 1 ∷ 1 ∷ []) (1 ∷ 2 ∷ 2 ∷ 1 ∷ []) ∷ chain none (1 ∷ 1 ∷ 1 ∷ 1 ∷ []) (1 ∷ 2 ∷ 2 ∷ []) ∷ [] ≡ refused 13 0 ∷ refused 13 0 ∷ [])
     -- 14, smallest: a layer 0; an anchored entry of another level, of another layer; an anchored vertex's entry elsewhere

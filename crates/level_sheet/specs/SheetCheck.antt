@@ -2,8 +2,8 @@
 use Rattle.std.specs.Prelude.{◌≡◌, ◌↔◌, Bool, not, cond, ◌||◌, List, ℕ, ◌≤◌, ◌<◌, length, get_or, T, eqb}
 use Rattle.table.specs.Table.{vertices}
 use Rattle.table.specs.Guard.{refused, refuse, past}
-use Rattle.table.specs.declared.Guard.{Guard}
-use Rattle.table.specs.declared.Guard.TheVariants.{Passed}
+use Rattle.table.specs.Guard.{Guard}
+use Rattle.table.specs.Guard.{clear}
 use Rattle.anchored.specs.Core.{level, layer}
 use Rattle.anchored.specs.Sheet.{misplaced, too_high, too_low, too_late}
 use Rattle.pool.specs.Arrays.{Holds}
@@ -24,7 +24,7 @@ sheet_of s l a lev lay =
     (refuse 14 (misplaced G A levels layers) n
     (refuse 19 (too_high G A levels layers) n
     (refuse 20 (too_low G A levels layers) n
-    (refuse 21 (too_late G A levels layers) n Passed)))))
+    (refuse 21 (too_late G A levels layers) n clear)))))
 
 -- what the check refuses: 1 to 8 of the table, 9, 10, 13, 14, 19, 20, 21
 unfoldable pub check_sheet_of : List ℕ → List ℕ → List ℕ → List ℕ → List ℕ → Guard
@@ -51,6 +51,6 @@ bounds number = eqb number 0 || eqb number 20 || eqb number 21
 -- what the number of the answer tells of a sheet
 pub record Tells (s l a lev lay : List ℕ) (number : ℕ) : Type 0 where
   -- exactly the defined sheet of an admitted input is accepted
-  pub defined : (number ≡ 0) ↔ ((admit_of s l a ≡ Passed) × Accepted s l a lev lay)
+  pub defined : (number ≡ 0) ↔ ((admit_of s l a ≡ clear) × Accepted s l a lev lay)
   -- a sheet accepted, or refused with 20 or 21, overstates nobody's level
   pub bounded : T (bounds number) → (v : ℕ) → v < vertices s → get_or lev v 0 ≤ level (graph_of s l) (anchored_by a) v

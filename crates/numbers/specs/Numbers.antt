@@ -2,7 +2,7 @@
 use Rattle.std.specs.Prelude.{ℕ}
 use Rattle.numbers.specs.declared.Answer.{Answer}
 use Rattle.numbers.specs.declared.Sheeted.{Sheeted}
-use Rattle.table.specs.declared.Refusal.{Refusal}
+use Rattle.table.specs.Rule.{Refusal}
 use Rattle.table.specs.declared.size.Size.{Size}
 use Rattle.table.specs.declared.Checked.{Checked}
 use Rattle.table.specs.declared.Checked.TheVariants.{Sound, Refused as TableRefused}

@@ -6,7 +6,7 @@ use native.Mathlib.Omega.{arith}
 use lib.ListN.{length, take, drop, length-append}
 use lib.Seq.{take-append_seam}
 use Rattle.table.specs.Guard.{held, front}
-use Rattle.table.specs.declared.Refusal.{Refusal}
+use Rattle.table.specs.Rule.{Refusal}
 use Rattle.table.proofs.Guards.{handed, cleared}
 use Rattle.sheet.specs.Line.{refused_line}
 use Rattle.sheet.specs.Written.{Written}

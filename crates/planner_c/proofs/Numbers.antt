@@ -9,8 +9,9 @@ use lib.Dec.{ltb, eqb}
 use Rattle.table.specs.Table.{vertices}
 use Rattle.table.specs.declared.size.Size.{Size}
 use Rattle.table.specs.Guard.{refused, refuse, number_of, answer}
-use Rattle.table.specs.declared.Guard.{Guard}
-use Rattle.table.specs.declared.Guard.TheVariants.{Passed, Refused}
+use Rattle.table.specs.Guard.{Guard}
+use Rattle.table.specs.Guard.{clear}
+use Rattle.std.specs.Prelude.{Ok, Err}
 use Rattle.table.proofs.Numbers.{Between, between_sound, between_next, between_found, between_past, zero-sound}
 use Rattle.edit.specs.Lent.{check_lent}
 use Rattle.edit.proofs.Checked.{between_lent}
@@ -30,7 +31,7 @@ between_run : (s l given : List ℕ) (m : ℕ) (matches fits : Bool) → Between
 unfolding admit_run
 between_run s l given m matches fits =
     let n = vertices s in
-    let room = cond fits Passed (refused 12 0) in
+    let room = cond fits clear (refused 12 0) in
     let few = cond (ltb 4096 m) (refused 11 0) room in
     let bytes = refuse 10 (λ v. ltb 1 (get_or given v 0)) n few in
     let events = cond (not matches) (refused 9 0) bytes in
@@ -40,15 +41,15 @@ between_run s l given m matches fits =
     (between_found 1 12 10 (λ v. ltb 1 (get_or given v 0)) n few (omega arith) (omega arith)
     (between_next 1 12 (ltb 4096 m) 11 0 room (omega arith) (omega arith) (lent fits)))))
   where
-    lent : (b : Bool) → Between 1 12 (cond b Passed (refused 12 0))
+    lent : (b : Bool) → Between 1 12 (cond b clear (refused 12 0))
     lent true = between_sound 1 12
     lent false = λ r e. let q : 12 ≡ r.number = cc in omega arith
 
 -- a session that answers 0 was not refused
-pub run_numbered : (s l given : List ℕ) (m : ℕ) (matches fits : Bool) (size : Size) → (answer (admit_run s l given m matches fits) (accepted_as 0 0 size) refused_as).number ≡ 0 → admit_run s l given m matches fits ≡ Passed
+pub run_numbered : (s l given : List ℕ) (m : ℕ) (matches fits : Bool) (size : Size) → (answer (admit_run s l given m matches fits) (accepted_as 0 0 size) refused_as).number ≡ 0 → admit_run s l given m matches fits ≡ clear
 unfolding answer
 run_numbered s l given m matches fits size e = let guard = admit_run s l given m matches fits in zero-sound guard 12 (between_run s l given m matches fits) (number-of guard ∙ e)
   where
     number-of : (g : Guard) → number_of g ≡ (answer g (accepted_as 0 0 size) refused_as).number
-    number-of Passed = refl
-    number-of (Refused r) = refl
+    number-of (Ok tt) = refl
+    number-of (Err r) = refl

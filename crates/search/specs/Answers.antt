@@ -4,8 +4,8 @@ use Rattle.finite.specs.Count.{tabulate}
 use Rattle.table.specs.Table.{vertices}
 use Rattle.table.specs.Size.{size_of}
 use Rattle.table.specs.Guard.{refused, answer, past}
-use Rattle.table.specs.declared.Guard.{Guard}
-use Rattle.table.specs.declared.Guard.TheVariants.{Passed}
+use Rattle.table.specs.Guard.{Guard}
+use Rattle.table.specs.Guard.{clear}
 use Rattle.anchored.specs.Followers.{followers, reached, mark}
 use Rattle.pool.specs.Input.{graph_of, anchored_by}
 use Rattle.marking.specs.Marking.{marking_of}
@@ -14,7 +14,7 @@ use Rattle.search.specs.declared.operation.Searched.TheVariants.{Found, Refused}
 
 -- 1 to 10, 12, 13, 14, 19, 20, 21 and 15, as `marking_of` has them, then 16 for an anchored x, at x
 unfoldable pub search_of : List ℕ → List ℕ → List ℕ → List ℕ → List ℕ → ℕ → ℕ → Guard
-search_of s l a lev lay x m = past (marking_of s l a lev lay x m) (cond (anchored_by a x) (refused 16 x) Passed)
+search_of s l a lev lay x m = past (marking_of s l a lev lay x m) (cond (anchored_by a x) (refused 16 x) clear)
 
 -- the answer: a refusal, or x's follower count (riders lifted), its reached count, and the size of the table
 unfoldable pub followers_of : List ℕ → List ℕ → List ℕ → List ℕ → List ℕ → ℕ → ℕ → Searched

@@ -8,17 +8,17 @@ use lib.Dec.{ltb}
 use borrow.Author.Tests.{eq-eqb, ne_eqb}
 use Rattle.table.specs.Table.{vertices}
 use Rattle.table.specs.Guard.{refused, refuse}
-use Rattle.table.specs.declared.Guard.{Guard}
-use Rattle.table.specs.declared.Guard.TheVariants.{Passed}
+use Rattle.table.specs.Guard.{Guard}
+use Rattle.table.specs.Guard.{clear}
 use Rattle.table.proofs.Guards.{cleared}
 use Rattle.edit.specs.Lent.{check_lent}
 use Rattle.session.specs.Run.{admit_run}
 
 -- 11 and 12, by the number of events and the lengths of the slices
 abbrev pub lengths : ℕ → Bool → Guard
-lengths m fits = cond (ltb 4096 m) (refused 11 0) (cond fits Passed (refused 12 0))
+lengths m fits = cond (ltb 4096 m) (refused 11 0) (cond fits clear (refused 12 0))
 
-module _ (s l a : List ℕ) (m : ℕ) (matches fits : Bool) (checked : check_lent s l ≡ Passed) where
+module _ (s l a : List ℕ) (m : ℕ) (matches fits : Bool) (checked : check_lent s l ≡ clear) where
   -- a lent table that passes its check is refused for the number of bytes
   pub wrong_bytes : (length a ≡ vertices s → ⊥) → admit_run s l a m matches fits ≡ refused 9 0
   unfolding admit_run

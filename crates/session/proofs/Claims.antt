@@ -12,7 +12,7 @@ use Rattle.finite.specs.Count.{bit, tabulate, sum, below}
 use Rattle.finite.proofs.Tests.{split, true_of, false_of}
 use Rattle.finite.proofs.Count.{bit_byte, tabulate-at, tabulate_cong, tabulate-self}
 use Rattle.table.specs.Table.{vertices}
-use Rattle.table.specs.declared.Guard.TheVariants.{Passed}
+use Rattle.table.specs.Guard.{clear}
 use Rattle.anchored.specs.Graph.{Graph, Simple}
 use Rattle.anchored.specs.Core.{level, layer}
 use Rattle.anchored.specs.Component.{component}
@@ -262,7 +262,7 @@ module _ (s l given : List ℕ) (events : Lists) (runs : Runs s l given events) 
   start-table = (start_starts s l runs.table, start_links s l runs.table)
 
   -- the call with the first i events alone
-  prefix_run : (i : ℕ) → i ≤ m → (lent : Slices) → lent.starts ≡ s → lent.links ≡ l → T (sized n i lent) → run_of given (prefix i events) lent ≡ Passed
+  prefix_run : (i : ℕ) → i ≤ m → (lent : Slices) → lent.starts ≡ s → lent.links ≡ l → T (sized n i lent) → run_of given (prefix i events) lent ≡ clear
   prefix_run i h lent starts links fits =
       let long = prefix-size events i h in
       rw (starts, links) (run_passes s l given (prefix i events) (sized n (size (prefix i events)) lent) (runs-prefix runs i h) (rw long fits))
@@ -288,5 +288,5 @@ module _ (s l given : List ℕ) (events : Lists) (runs : Runs s l given events) 
   }
 
 -- demand 3, of every call that is not refused as a whole
-pub session_claim : (s l given : List ℕ) (events : Lists) (lent : Slices) → lent.starts ≡ s → lent.links ≡ l → run_of given events lent ≡ Passed → Claim s l given events
+pub session_claim : (s l given : List ℕ) (events : Lists) (lent : Slices) → lent.starts ≡ s → lent.links ≡ l → run_of given events lent ≡ clear → Claim s l given events
 session_claim s l given events lent starts links passed = claimed s l given events (run_sound s l given events (sized (vertices s) (size events) lent) (rw (starts, links) at passed)).0

@@ -13,7 +13,7 @@ use Rattle.finite.proofs.Tests.{split, true_of, false_of, neqb}
 use Rattle.finite.proofs.Count.{bit_le, bit-one, length-tabulate, tabulate_reads, tabulate-at, sum_cong, in_below}
 use Rattle.table.specs.Table.{vertices}
 use Rattle.table.specs.Size.{size_of}
-use Rattle.table.specs.declared.Guard.TheVariants.{Passed}
+use Rattle.table.specs.Guard.{clear}
 use Rattle.table.proofs.Laws.{sound}
 use Rattle.anchored.specs.Graph.{Graph, Simple}
 use Rattle.anchored.specs.Core.{level, layer}
@@ -70,7 +70,7 @@ module _ {n : ℕ} {P : Pool} (stands : Standing n P) where
       (λ h. rw (tabulate-at (λ w. bit (A w)) n v (nleb→lt n v h)) (bit-one (A v))))
 
   -- table and bytes are admitted by every other operation
-  pub bytes-admitted : admit_of starts links bytes ≡ Passed
+  pub bytes-admitted : admit_of starts links bytes ≡ clear
   bytes-admitted =
       let same = stands.vertices in
       admits starts links bytes stands.checked (bytes_long ∙ sym same) record {

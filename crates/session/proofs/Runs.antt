@@ -14,7 +14,7 @@ use Rattle.finite.specs.Search.{all}
 use Rattle.finite.proofs.Tests.{true_of, of_true, and_l, and_r, eqb_of}
 use Rattle.finite.proofs.Search.{all_i}
 use Rattle.table.specs.Table.{vertices}
-use Rattle.table.specs.declared.Guard.TheVariants.{Passed}
+use Rattle.table.specs.Guard.{clear}
 use Rattle.table.proofs.Guards.{both-passed, cleared}
 use Rattle.table.proofs.Laws.{went_on, went_past, pass}
 use Rattle.pool.proofs.Lengths.{passed, each}
@@ -33,7 +33,7 @@ module _ (s l given : List ℕ) (events : Lists) (fits : Bool) where
   high v = ltb 1 (get_or given v 0)
 
   -- what is not refused
-  pub run_sound : admit_run s l given m (matched events) fits ≡ Passed → Runs s l given events × T fits
+  pub run_sound : admit_run s l given m (matched events) fits ≡ clear → Runs s l given events × T fits
   unfolding admit_run
   run_sound e =
       let table = both-passed (check_lent s l) _ e in
@@ -50,11 +50,11 @@ module _ (s l given : List ℕ) (events : Lists) (fits : Bool) where
           seconds = lengths _ (inr (inl refl));
           few = ltb-false 4096 m few.0;
         },
-        (passed fits _ Passed few.1).0,
+        (passed fits _ clear few.1).0,
       )
 
   -- the converse, with slices that fit
-  pub run_passes : Runs s l given events → T fits → admit_run s l given m (matched events) fits ≡ Passed
+  pub run_passes : Runs s l given events → T fits → admit_run s l given m (matched events) fits ≡ clear
   unfolding admit_run
   run_passes runs lent =
       let matches = true_of (matched events) (all_i (eqb m) _ (λ k i. ⊎_elim

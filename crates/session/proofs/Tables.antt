@@ -10,7 +10,7 @@ use borrow.Author.Tests.{lt-ltb, ne_eqb}
 use Rattle.finite.specs.Count.{tabulate}
 use Rattle.finite.proofs.Count.{length-tabulate, tabulate-at, tabulate-take}
 use Rattle.table.specs.Table.{vertices, check_of}
-use Rattle.table.specs.declared.Guard.TheVariants.{Passed}
+use Rattle.table.specs.Guard.{clear}
 use Rattle.anchored.specs.Graph.{Graph, Simple}
 use Rattle.anchored.specs.Events.{Event, Pool, event_turn, after_events}
 use Rattle.anchored.proofs.Session.{status-free, turn-accepted}
@@ -28,8 +28,8 @@ pub record Standing (n : ℕ) (P : Pool) : Type 0 where
   pub tabled : Tabled (starts_of P.graph) (links_of P.graph) P.graph
   pub vertices : vertices (starts_of P.graph) ≡ n
   -- the check of the lent table passes it, and every other operation's check its links up to the last start, which have the same graph
-  pub lent : check_lent (starts_of P.graph) (links_of P.graph) ≡ Passed
-  pub checked : check_of (starts_of P.graph) (take (last_start (starts_of P.graph)) (links_of P.graph)) ≡ Passed
+  pub lent : check_lent (starts_of P.graph) (links_of P.graph) ≡ clear
+  pub checked : check_of (starts_of P.graph) (take (last_start (starts_of P.graph)) (links_of P.graph)) ≡ clear
   pub cut : graph_of (starts_of P.graph) (take (last_start (starts_of P.graph)) (links_of P.graph)) ≡ P.graph
   pub beyond : (v : ℕ) → n ≤ v → P.plain.anchors v ≡ false
 
@@ -55,7 +55,7 @@ after-beyond G L A events (suc i) v h =
 
 -- ---- from a lent table that its check passes
 
-module _ (s l : List ℕ) (passed : check_lent s l ≡ Passed) where
+module _ (s l : List ℕ) (passed : check_lent s l ≡ clear) where
   abbrev G : Graph
   G = graph_of s l
 

@@ -9,8 +9,8 @@ use Rattle.finite.specs.Edits.{insert, remove}
 use Rattle.table.specs.Table.{neighbors, bad_start, beyond, looped, unsorted, unreturned, check_of}
 use Rattle.table.specs.Size.{edges_of, size_of}
 use Rattle.table.specs.Guard.{refused, answer}
-use Rattle.table.specs.declared.Guard.{Guard}
-use Rattle.table.specs.declared.Guard.TheVariants.{Passed}
+use Rattle.table.specs.Guard.{Guard}
+use Rattle.table.specs.Guard.{clear}
 use Rattle.anchored.specs.Edge.{link_count}
 use Rattle.anchored.specs.Core.{batch, core, level, shell, layer, greater, higher}
 use Rattle.anchored.specs.Component.{joins, around, component, together}
@@ -89,10 +89,10 @@ pub cases :
     × (rows (table (0 ∷ 3 ∷ 6 ∷ 9 ∷ 12 ∷ []) (1 ∷ 2 ∷ 3 ∷ 0 ∷ 2 ∷ 3 ∷ 0 ∷ 1 ∷ 3 ∷ 0 ∷ 1 ∷ 2 ∷ [])) none ≡ ((3 ∷ 3 ∷ 3 ∷ 3 ∷ []) ∷ (1 ∷ 1 ∷ 1 ∷ 1 ∷ []) ∷ (0 ∷ 0 ∷ 0 ∷ 0 ∷ []) ∷ (0 ∷ 0 ∷ 0 ∷ 0 ∷ []) ∷ [], pos 0 ∷ pos 0 ∷ pos 0 ∷ pos 0 ∷ []))
     -- I, and the call is not refused
     × (session chain none (anchoring (0 ∷ 0 ∷ 3 ∷ 9 ∷ [])) ≡ (0 ∷ 16 ∷ 0 ∷ 15 ∷ []) ∷ (0 ∷ 0 ∷ 2 ∷ 0 ∷ []) ∷ (2 ∷ 0 ∷ 2 ∷ 0 ∷ []) ∷ (1 ∷ 3 ∷ 3 ∷ 3 ∷ []) ∷ (65535 ∷ 0 ∷ 0 ∷ 65535 ∷ []) ∷ [])
-    × (called chain none (anchoring (0 ∷ 0 ∷ 3 ∷ 9 ∷ [])) ≡ Passed)
+    × (called chain none (anchoring (0 ∷ 0 ∷ 3 ∷ 9 ∷ [])) ≡ clear)
     -- J, and the defined sheet
     × (check_sheet_of chain.starts chain.links none (1 ∷ 1 ∷ 1 ∷ 1 ∷ []) (1 ∷ 2 ∷ 3 ∷ 1 ∷ []) ≡ refused 21 2)
-    × (check_sheet_of chain.starts chain.links none (1 ∷ 1 ∷ 1 ∷ 1 ∷ []) (1 ∷ 2 ∷ 2 ∷ 1 ∷ []) ≡ Passed)
+    × (check_sheet_of chain.starts chain.links none (1 ∷ 1 ∷ 1 ∷ 1 ∷ []) (1 ∷ 2 ∷ 2 ∷ 1 ∷ []) ≡ clear)
     -- card 6: 0 anchored, an edge between 0 and 3 added, that between 1 and 2 dropped
     × (session chain none (lists (0 ∷ 1 ∷ 2 ∷ []) (0 ∷ 0 ∷ 1 ∷ []) (7 ∷ 3 ∷ 2 ∷ [])) ≡ (0 ∷ 0 ∷ 0 ∷ []) ∷ (0 ∷ 0 ∷ 0 ∷ []) ∷ (2 ∷ 3 ∷ 3 ∷ []) ∷ (1 ∷ 3 ∷ 3 ∷ 3 ∷ []) ∷ (65535 ∷ 0 ∷ 1 ∷ 0 ∷ []) ∷ [])
     -- 9 for lists not of one length comes before 10

@@ -5,7 +5,7 @@ use Rattle.finite.specs.Count.{bit, tabulate, count, sum, below}
 use Rattle.table.specs.Table.{vertices}
 use Rattle.table.specs.Size.{size_of}
 use Rattle.table.specs.declared.size.Size.{Size}
-use Rattle.table.specs.declared.Guard.TheVariants.{Passed}
+use Rattle.table.specs.Guard.{clear}
 use Rattle.anchored.specs.Graph.{Graph}
 use Rattle.anchored.specs.Core.{level, layer}
 use Rattle.anchored.specs.Component.{component}
@@ -74,14 +74,14 @@ module _ (s l given : List ℕ) (events : Lists) where
 
   -- the table after i events is a table still, of as many vertices, and has 0 in every place past the last start
   pub record Stays (i : ℕ) : Type 0 where
-    pub table : check_lent (upto i).starts (upto i).links ≡ Passed
+    pub table : check_lent (upto i).starts (upto i).links ≡ clear
     pub vertices : vertices (upto i).starts ≡ n
     pub places : length (upto i).links ≡ 16384
     pub zeros : (p : ℕ) → last_start (upto i).starts ≤ p → get_or (upto i).links p 0 ≡ 0
 
   -- the record after i events, stamps apart, is the one worked out afresh from that table and its bytes
   pub record Fresh (i : ℕ) : Type 0 where
-    pub admitted : admit_of (upto i).starts (linked i) (upto i).anchored ≡ Passed
+    pub admitted : admit_of (upto i).starts (linked i) (upto i).anchored ≡ clear
     pub levels : (upto i).levels ≡ tabulate (level (graph i) (set i)) n
     pub layers : (upto i).layers ≡ tabulate (layer (graph i) (set i)) n
     pub components : (upto i).components ≡ tabulate (component (graph i) (set i)) n
@@ -153,7 +153,7 @@ module _ (s l given : List ℕ) (events : Lists) where
   -- the claim
   pub record Claim : Type 0 where
     -- the call with the first i events alone, the same table, and slices of their lengths, is not refused
-    pub calls : (i : ℕ) → i ≤ size events → (lent : Slices) → lent.starts ≡ s → lent.links ≡ l → T (sized n i lent) → run_of given (prefix i events) lent ≡ Passed
+    pub calls : (i : ℕ) → i ≤ size events → (lent : Slices) → lent.starts ≡ s → lent.links ≡ l → T (sized n i lent) → run_of given (prefix i events) lent ≡ clear
     -- with all events it is this call
     pub end : upto (size events) ≡ ended s l given events
     -- at the start the table and the bytes are the given ones, and every stamp is 0

@@ -4,8 +4,8 @@ use Rattle.finite.specs.Count.{bit, tabulate}
 use Rattle.finite.specs.Search.{all}
 use Rattle.table.specs.Table.{vertices}
 use Rattle.table.specs.Guard.{refused, refuse, past}
-use Rattle.table.specs.declared.Guard.{Guard}
-use Rattle.table.specs.declared.Guard.TheVariants.{Passed}
+use Rattle.table.specs.Guard.{Guard}
+use Rattle.table.specs.Guard.{clear}
 use Rattle.anchored.specs.Core.{level, layer}
 use Rattle.anchored.specs.Component.{component}
 use Rattle.anchored.specs.Followers.{reached_count}
@@ -77,7 +77,7 @@ admit_run s l a m matches fits = past (check_lent s l)
     (cond (not matches) (refused 9 0)
     (refuse 10 (λ v. ltb 1 (get_or a v 0)) (vertices s)
     (cond (ltb 4096 m) (refused 11 0)
-    (cond fits Passed (refused 12 0))))))
+    (cond fits clear (refused 12 0))))))
 
 -- what a call with these slices refuses
 abbrev pub run_of : List ℕ → Lists → Slices → Guard

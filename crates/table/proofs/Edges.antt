@@ -14,7 +14,7 @@ use Rattle.finite.proofs.Count.{in_below, count_cong, count_union, count-listed,
 use Rattle.finite.proofs.Search.{member_i, member-e, greatest_bounds, greatest_one, greatest_zero}
 use Rattle.table.specs.Table.{vertices, neighbors, check_of, Framed, SoundTable}
 use Rattle.table.specs.Size.{edge, edges_of, degree_of, size_of, Measures}
-use Rattle.table.specs.declared.Guard.TheVariants.{Passed}
+use Rattle.table.specs.Guard.{clear}
 use Rattle.table.proofs.Laws.{neighbors-length, neighbors-few, ends, sound}
 
 -- the links of the vertices below v end where those of v start
@@ -63,7 +63,7 @@ module _ (s l : List ℕ) (t : SoundTable s l) where
       omega (arith, sum_swap (edge s l) all all, sum-add lower upper all, sum_cong (degree_of s l) (λ v. lower v + upper v) all (λ v i. degree_split v ((in_below (vertices s) v).0 i)))
 
 -- what the size says
-pub measured : (s l : List ℕ) → check_of s l ≡ Passed → Measures s l (size_of s l)
+pub measured : (s l : List ℕ) → check_of s l ≡ clear → Measures s l (size_of s l)
 unfolding size_of
 measured s l e =
     let t = sound s l e in

@@ -6,18 +6,20 @@ use Prim.Native.Nat.{ℕ, zero, suc, ◌+◌, ◌-◌, ◌≤◌, ◌<◌}
 use native.Mathlib.Omega.{arith}
 use lib.ListN.{length, drop, get_or, length-take, length-drop}
 use lib.Seq.{get_or-take, get_or-drop}
-use lib.Dec.{T, leb, ltb, eqb}
+use lib.Dec.{T, leb, ltb, eqb, nltb→le}
 use borrow.Author.Tests.{lt-ltb, le-ltb, lt-leb, eq-eqb, ne_eqb, ltb-false, leb-false, eqb-true, eqb-false, not-false}
 use Rattle.finite.specs.Count.{In}
-use Rattle.finite.specs.Search.{member, first, NoneBelow}
+use Rattle.finite.specs.Search.{member, first, found, NoneBelow}
 use Rattle.finite.specs.Search.{ascending as ascends}
 use Rattle.finite.proofs.Count.{in_at, distinct-other}
-use Rattle.finite.proofs.Tests.{of_true, true_of, false_of, of_false, not-or}
+use Rattle.finite.proofs.Tests.{split, of_true, true_of, false_of, of_false, not-or}
 use Rattle.finite.proofs.Search.{not-any, member_i, member-e, none_any, first-none, first-le, none_of, ascending-distinct}
-use Rattle.table.specs.Table.{vertices, neighbors, wrong_end, wrong_step, bad_start, beyond, looped, unsorted, unreturned, check_of, Framed, SoundTable}
-use Rattle.table.specs.Guard.{refused, refuse}
-use Rattle.table.specs.declared.Guard.{Guard}
-use Rattle.table.specs.declared.Guard.TheVariants.{Passed}
+use Rattle.table.specs.Table.{vertices, neighbors, wrong_end, wrong_step, bad_start, beyond, looped, unsorted, unreturned, links_of, check_of, Framed, SoundTable}
+use Rattle.table.specs.Rule.{Refusal}
+use Rattle.table.specs.Guard.{refused, refused_at, refuse}
+use Rattle.std.specs.Prelude.{Ok, Err}
+use Rattle.table.specs.Guard.{Guard}
+use Rattle.table.specs.Guard.{clear}
 
 module _ (s l : List ℕ) (some : 0 < length s) (none : NoneBelow (bad_start s l) (length s)) where
   not_wrong : (i : ℕ) → i < length s → T (not (wrong_end s l i)) × T (not (wrong_step s i))
@@ -80,12 +82,16 @@ module _ (s l : List ℕ) where
   unfolding unsorted
   sorted none v h = of_true (ascends (neighbors s l v)) (not-false (ascends (neighbors s l v)) (none v h))
 
+-- so is one that a loop looks at
+pub listed_vertex : (s l : List ℕ) → NoneBelow (beyond s l) (vertices s) → (v : ℕ) → v < vertices s → {part : List ℕ} → part ≡ neighbors s l v → (j : ℕ) → j < length part → get_or part j 0 < vertices s
+listed_vertex s l none v h {part = part} e j less = in_range s l none v (get_or part j 0) h (subst (In (get_or part j 0)) e (in_at part j 0 less))
+
 -- an answer that is sound went past each refusal, and past each search
-pub went_on : (b : Bool) (k p : ℕ) (rest : Guard) → cond b (refused k p) rest ≡ Passed → (b ≡ false) × (rest ≡ Passed)
+pub went_on : (b : Bool) (k p : ℕ) (rest : Guard) → cond b (refused k p) rest ≡ clear → (b ≡ false) × (rest ≡ clear)
 went_on true k p rest e = let z : ◌≡◌ {A = ℕ} 0 1 = cc in absurd (omega arith)
 went_on false k p rest e = (refl, e)
 
-pub went_past : (k : ℕ) (p : ℕ → Bool) (n : ℕ) (rest : Guard) → refuse k p n rest ≡ Passed → NoneBelow p n × (rest ≡ Passed)
+pub went_past : (k : ℕ) (p : ℕ → Bool) (n : ℕ) (rest : Guard) → refuse k p n rest ≡ clear → NoneBelow p n × (rest ≡ clear)
 went_past k p n rest e =
     let r = went_on (ltb (first p n) n) k (first p n) rest e in
     (none_of p n (omega (arith, first-le p n, ltb-false (first p n) n r.0)), r.1)
@@ -95,7 +101,7 @@ abbrev pub missing : List ℕ → List ℕ → ℕ → ℕ → Bool
 missing s l v u = not (member v (neighbors s l u))
 
 -- what the check promises
-pub sound : (s l : List ℕ) → check_of s l ≡ Passed → SoundTable s l
+pub sound : (s l : List ℕ) → check_of s l ≡ clear → SoundTable s l
 unfolding check_of looped unreturned
 sound s l e =
     let some = went_on _ _ _ _ e in
@@ -119,7 +125,7 @@ sound s l e =
     }
 
 -- the links of a sound table go from place 0 to its last start
-pub ends : (s l : List ℕ) → check_of s l ≡ Passed → (get_or s 0 0 ≡ 0) × (get_or s (vertices s) 0 ≡ length l)
+pub ends : (s l : List ℕ) → check_of s l ≡ clear → (get_or s 0 0 ≡ 0) × (get_or s (vertices s) 0 ≡ length l)
 unfolding check_of
 ends s l e =
     let some = went_on (eqb (length s) 0) 1 0 _ e in
@@ -142,7 +148,7 @@ pub pass : (k : ℕ) (p : ℕ → Bool) (n : ℕ) (rest : Guard) → NoneBelow p
 pass k p n rest none = let t : ltb (first p n) n ≡ false = le-ltb (first p n) n (omega (arith, first-none p n none)) in rw t
 
 -- the converse: a table without a bad start that keeps these promises is found sound
-pub found-sound : (s l : List ℕ) → NoneBelow (bad_start s l) (length s) → SoundTable s l → check_of s l ≡ Passed
+pub found-sound : (s l : List ℕ) → NoneBelow (bad_start s l) (length s) → SoundTable s l → check_of s l ≡ clear
 unfolding check_of beyond looped unsorted unreturned
 found-sound s l starts t =
     let some = ne_eqb (length s) 0 (λ e. omega (arith, t.framed.some)) in
@@ -154,3 +160,47 @@ found-sound s l starts t =
     ∙ pass 6 _ _ _ (λ v h. none_any (eqb v) (neighbors s l v) (λ w i. ne_eqb v w (λ e. t.loopless v h (subst (λ u. In u (neighbors s l v)) (sym e) i))))
     ∙ pass 7 _ _ _ (λ v h. ap not (true_of (ascends (neighbors s l v)) (t.ascending v h)))
     ∙ pass 8 _ _ _ (λ v h. none_any (λ u. not (member v (neighbors s l u))) (neighbors s l v) (λ w i. ap not (true_of (member v (neighbors s l w)) (member_i v (neighbors s l w) (t.symmetric v w h i))))))
+
+-- a place that is found is refused
+pub refused-found : (k : ℕ) (p : ℕ → Bool) (n : ℕ) (rest : Guard) {r : Refusal} → refused_at k (found p n) ≡ Err r → refuse k p n rest ≡ Err r
+refused-found k p n rest e =
+    split (ltb (first p n) n)
+    (λ t. let h = true_of (ltb (first p n) n) t in rw h (rw h at e))
+    (λ f. let h = false_of (ltb (first p n) n) f in let z : clear ≡ Err _ = rw h at e in cc)
+
+-- where none is found, none breaks the rule
+pub none-found : (k : ℕ) (p : ℕ → Bool) (n : ℕ) → refused_at k (found p n) ≡ clear → NoneBelow p n
+none-found k p n e =
+    split (ltb (first p n) n)
+    (λ t. let h = true_of (ltb (first p n) n) t in let z : refused k (first p n) ≡ clear = rw h at e in cc)
+    (λ f. none_of p n (omega (arith, first-le p n, nltb→le (first p n) n f)))
+
+-- the last test of several
+pub refused-last : (k : ℕ) (p : ℕ → Bool) (n : ℕ) → refuse k p n clear ≡ refused_at k (found p n)
+refused-last k p n =
+    split (ltb (first p n) n)
+    (λ t. let h = true_of (ltb (first p n) n) t in rw h)
+    (λ f. let h = false_of (ltb (first p n) n) f in rw h)
+
+-- a list that is not empty
+pub some_start : (s : List ℕ) → eqb (length s) 0 ≡ false → 0 < length s
+some_start s e = let ne = eqb-false (length s) 0 e in omega arith
+
+-- the check of a table of so many vertices and links, test after test
+module _ (s l : List ℕ) (some : 0 < length s) (small : vertices s ≤ 1024) (few : length l ≤ 16384) where
+  begun : check_of s l ≡ refuse 4 (bad_start s l) (length s) (links_of s l)
+  unfolding check_of
+  begun = simp (ne_eqb (length s) 0 (λ e. omega arith), le-ltb 1024 (vertices s) small, le-ltb 16384 (length l) few)
+
+  pub starts-refused : {r : Refusal} → refused_at 4 (found (bad_start s l) (length s)) ≡ Err r → check_of s l ≡ Err r
+  starts-refused e = begun ∙ refused-found 4 (bad_start s l) (length s) (links_of s l) e
+
+  pub started : refused_at 4 (found (bad_start s l) (length s)) ≡ clear → check_of s l ≡ links_of s l
+  started e = begun ∙ pass 4 (bad_start s l) (length s) (links_of s l) (none-found 4 (bad_start s l) (length s) e)
+
+-- without a bad start the starts are in order; and a sound table passes
+pub started-framed : (s l : List ℕ) → 0 < length s → refused_at 4 (found (bad_start s l) (length s)) ≡ clear → Framed s l
+started-framed s l some e = framed s l some (none-found 4 (bad_start s l) (length s) e)
+
+pub started-sound : (s l : List ℕ) → refused_at 4 (found (bad_start s l) (length s)) ≡ clear → SoundTable s l → check_of s l ≡ clear
+started-sound s l e = found-sound s l (none-found 4 (bad_start s l) (length s) e)

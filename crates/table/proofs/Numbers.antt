@@ -9,16 +9,17 @@ use lib.Dec.{ltb, eqb}
 use Rattle.finite.specs.Search.{first}
 use Rattle.table.specs.Table.{vertices, bad_start, beyond, looped, unsorted, unreturned, check_of}
 use Rattle.table.specs.Guard.{refused, number_of, refuse, answer, past}
-use Rattle.table.specs.declared.Refusal.{Refusal}
-use Rattle.table.specs.declared.Guard.{Guard}
-use Rattle.table.specs.declared.Guard.TheVariants.{Passed, Refused}
+use Rattle.table.specs.Rule.{Refusal}
+use Rattle.table.specs.Guard.{Guard}
+use Rattle.table.specs.Guard.{clear}
+use Rattle.std.specs.Prelude.{Ok, Err}
 
 -- a refusal has a number from low to high
 abbrev pub Between : ℕ → ℕ → Guard → Type 0
-Between low high guard = (r : Refusal) → guard ≡ Refused r → (low ≤ r.number) × (r.number ≤ high)
+Between low high guard = (r : Refusal) → guard ≡ Err r → (low ≤ r.number) × (r.number ≤ high)
 
 module _ (low high : ℕ) where
-  pub between_sound : Between low high Passed
+  pub between_sound : Between low high clear
   between_sound r e = let z : ◌≡◌ {A = ℕ} 0 1 = cc in absurd (omega arith)
 
   -- a refusal with such a number, or the rest
@@ -33,14 +34,14 @@ module _ (low high : ℕ) where
   -- one answer, and where it refuses nothing the rest
   pub between_past : (guard rest : Guard) → Between low high guard → Between low high rest → Between low high (past guard rest)
   unfolding answer
-  between_past Passed rest before later = later
-  between_past (Refused r) rest before later = before
+  between_past (Ok tt) rest before later = later
+  between_past (Err r) rest before later = before
 
   pub between_check : (s l : List ℕ) → low ≤ 1 → 8 ≤ high → Between low high (check_of s l)
   unfolding check_of
   between_check s l from upto =
       let n = vertices s in
-      let eight = refuse 8 (unreturned s l) n Passed in
+      let eight = refuse 8 (unreturned s l) n clear in
       let seven = refuse 7 (unsorted s l) n eight in
       let six = refuse 6 (looped s l) n seven in
       let five = refuse 5 (beyond s l) n six in
@@ -54,9 +55,9 @@ module _ (low high : ℕ) where
       (between_found 5 (beyond s l) n six (omega arith) (omega arith)
       (between_found 6 (looped s l) n seven (omega arith) (omega arith)
       (between_found 7 (unsorted s l) n eight (omega arith) (omega arith)
-      (between_found 8 (unreturned s l) n Passed (omega arith) (omega arith) between_sound)))))))
+      (between_found 8 (unreturned s l) n clear (omega arith) (omega arith) between_sound)))))))
 
 -- where no refusal has the number 0, a guard of that number refuses nothing
-pub zero-sound : (guard : Guard) (high : ℕ) → Between 1 high guard → number_of guard ≡ 0 → guard ≡ Passed
-zero-sound Passed high range e = refl
-zero-sound (Refused r) high range e = absurd (omega (arith, (range r refl).0))
+pub zero-sound : (guard : Guard) (high : ℕ) → Between 1 high guard → number_of guard ≡ 0 → guard ≡ clear
+zero-sound (Ok tt) high range e = refl
+zero-sound (Err r) high range e = absurd (omega (arith, (range r refl).0))

@@ -6,8 +6,8 @@ use Rattle.table.specs.Table.{neighbors, bad_start, beyond, looped, unsorted, un
 use Rattle.table.specs.Size.{edges_of, size_of}
 use Rattle.table.specs.Guard.{refused}
 use Rattle.table.specs.declared.size.Size.{Size}
-use Rattle.table.specs.declared.Guard.{Guard}
-use Rattle.table.specs.declared.Guard.TheVariants.{Passed}
+use Rattle.table.specs.Guard.{Guard}
+use Rattle.table.specs.Guard.{clear}
 
 -- the starts of a chain of four vertices
 abbrev chain : List ℕ
@@ -34,9 +34,9 @@ answers :
     ∷ check_of chain (1 ∷ 0 ∷ 3 ∷ 1 ∷ 3 ∷ 2 ∷ [])
     ∷ check_of (0 ∷ 0 ∷ 1 ∷ []) (0 ∷ [])
     ∷ [])
-    (Passed
-    ∷ Passed
-    ∷ Passed
+    (clear
+    ∷ clear
+    ∷ clear
     ∷ refused 1 0
     ∷ refused 2 0
     ∷ refused 3 0

@@ -1,17 +1,27 @@
 -- Guards: what the tests before the work refuse, and what follows from it.
-use Rattle.std.specs.Prelude.{Bool, cond, List, ◌++◌, ℕ, length, drop, ltb}
+use Rattle.std.specs.Prelude.{Bool, cond, List, ◌++◌, ℕ, length, drop, ltb, Option, Some, None, Result, Ok, Err}
 use Rattle.finite.specs.Search.{first}
-use Rattle.table.specs.declared.Refusal.{Refusal}
-use Rattle.table.specs.declared.Guard.{Guard}
-use Rattle.table.specs.declared.Guard.TheVariants.{Passed, Refused}
+use Rattle.table.specs.Rule.{Refusal}
+
+-- what the tests before the work answer: nothing is refused, or the refusal
+abbrev pub Guard : Type 0
+Guard = Result (Unit {0}) Refusal
+
+abbrev pub clear : Guard
+clear = Ok tt
 
 abbrev pub refused : ℕ → ℕ → Guard
-refused k p = Refused (record { number = k; place = p })
+refused k p = Err (record { number = k; place = p })
+
+-- refusal k at a place, where there is one
+abbrev pub refused_at : ℕ → Option ℕ → Guard
+refused_at k (Some p) = refused k p
+refused_at k None = clear
 
 -- the number of a guard: 0 where nothing is refused
 abbrev pub number_of : Guard → ℕ
-number_of Passed = 0
-number_of (Refused r) = r.number
+number_of (Ok tt) = 0
+number_of (Err r) = r.number
 
 -- refusal k at the lowest index below n that passes the test, and else the rest
 abbrev pub refuse : ℕ → (ℕ → Bool) → ℕ → Guard → Guard
@@ -19,12 +29,12 @@ refuse k p n rest = cond (ltb (first p n) n) (refused k (first p n)) rest
 
 -- the answer of an operation: its accepted one, or the refusal handed on
 unfoldable pub answer : {X : Type 0} → Guard → X → (Refusal → X) → X
-answer Passed accepted hand = accepted
-answer (Refused r) accepted hand = hand r
+answer (Ok tt) accepted hand = accepted
+answer (Err r) accepted hand = hand r
 
 -- the next guard, where nothing is refused first
 abbrev pub past : Guard → Guard → Guard
-past first next = answer first next Refused
+past first next = answer first next Err
 
 -- what is lent holds afterwards: the new contents, or what it held
 abbrev pub held : {X : Type 0} → Guard → X → X → X

@@ -1,3 +1,4 @@
+pub mod Rule
 pub mod Guard
 pub mod Table
 pub mod Paired

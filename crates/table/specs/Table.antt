@@ -4,8 +4,8 @@ use Rattle.finite.specs.Count.{In, Distinct}
 use Rattle.finite.specs.Search.{any, member}
 use Rattle.finite.specs.Search.{ascending as ascends}
 use Rattle.table.specs.Guard.{refused, refuse}
-use Rattle.table.specs.declared.Guard.{Guard}
-use Rattle.table.specs.declared.Guard.TheVariants.{Passed}
+use Rattle.table.specs.Guard.{Guard}
+use Rattle.table.specs.Guard.{clear}
 
 -- n: there is one start more than vertices
 abbrev pub vertices : List ℕ → ℕ
@@ -46,17 +46,21 @@ breaks s l rule v = cond (eqb rule 5) (beyond s l v) (cond (eqb rule 6) (looped 
 unfoldable pub unreturned : List ℕ → List ℕ → ℕ → Bool
 unreturned s l v = any (λ u. not (member v (neighbors s l u))) (neighbors s l v)
 
+-- what it refuses of the links
+abbrev pub links_of : List ℕ → List ℕ → Guard
+links_of s l =
+    refuse 5 (beyond s l) (vertices s)
+    (refuse 6 (looped s l) (vertices s)
+    (refuse 7 (unsorted s l) (vertices s)
+    (refuse 8 (unreturned s l) (vertices s) clear)))
+
 -- what the check of a table refuses: the lowest number first, each tested over the whole table, with document 01's place
 unfoldable pub check_of : List ℕ → List ℕ → Guard
 check_of s l =
     cond (eqb (length s) 0) (refused 1 0)
     (cond (ltb 1024 (vertices s)) (refused 2 0)
     (cond (ltb 16384 (length l)) (refused 3 0)
-    (refuse 4 (bad_start s l) (length s)
-    (refuse 5 (beyond s l) (vertices s)
-    (refuse 6 (looped s l) (vertices s)
-    (refuse 7 (unsorted s l) (vertices s)
-    (refuse 8 (unreturned s l) (vertices s) Passed)))))))
+    (refuse 4 (bad_start s l) (length s) (links_of s l))))
 
 -- starts in order and in range: what `neighbors` relies on
 pub record Framed (s l : List ℕ) : Type 0 where

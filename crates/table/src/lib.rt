@@ -1,38 +1,20 @@
 // The adjacency table, in two lent slices: its check, refusals 1 to 8, and the neighbors of a vertex.
 #![tactic(auto)]
 
-ghost use Rattle.std.specs.Prelude.{◌≡◌, ◌<◌};
-ghost use Rattle.table.specs.Table.{vertices, check_of, Framed};
+ghost use Rattle.std.specs.Prelude.{◌≡◌, ◌<◌, Ok, Err};
+ghost use Rattle.table.specs.Table.{vertices, links_of, check_of, Framed};
 ghost use Rattle.table.specs.Table.{neighbors as neighbors_of};
 ghost use Rattle.table.specs.Size.{size_of};
-ghost use Rattle.table.specs.Guard.{answer, refused as refused_of};
-ghost use Rattle.table.specs.declared.Checked.TheVariants.{Sound, Refused as RefusedTable};
+ghost use Rattle.table.specs.Guard.{answer};
 
 mod paired; // the one pass that a sound table passes
 pub mod part; // one vertex's neighbors
-mod rules; // the first start, or the first vertex, that breaks a rule
+pub mod refusal; // what a call refuses
+mod rules; // the rules of starts and of one vertex's neighbors
 pub mod size; // edges and the greatest degree
 
-// A refusal: document 01's number and place.
-#[derive(Drop)]
-pub struct Refusal {
-    pub number: u16,
-    pub place: usize,
-}
-
-// What a test before the work says: nothing is refused, or the refusal.
-#[derive(Drop)]
-pub enum Guard {
-    Passed,
-    Refused(Refusal),
-}
-
-// The answer of the check: the table is sound, with its size, or a refusal.
-#[derive(Drop)]
-pub enum Checked {
-    Sound(size::Size),
-    Refused(Refusal),
-}
+pub use refusal::{Refusal, Rule, refuse};
+pub use size::Size;
 
 // The neighbors of v: the links from place start v up to, not including, start v + 1.
 pub fn neighbors<'a, 'b>(starts: &'a [u16], links: &'b [u16], v: usize) -> &'b [u16]
@@ -45,60 +27,42 @@ pub fn neighbors<'a, 'b>(starts: &'a [u16], links: &'b [u16], v: usize) -> &'b [
     &links[a..b]
 }
 
-// A refusal by its number and place.
-pub fn refused(number: u16, place: usize) -> Guard
-    ensures { result ≡ refused_of number place }
+// Refusals 5 to 8 of a table whose starts are in order.
+fn test_links(starts: &[u16], links: &[u16]) -> Result<(), Refusal>
+    requires { Framed starts.now links.now }
+    ensures { result ≡ links_of starts.now links.now }
 {
-    Guard::Refused(Refusal { number, place })
+    let n = starts.len() - 1;
+    refuse(Rule::Beyond, (0..n).find(|v| rules::is_beyond(starts, links, *v)))?;
+    refuse(Rule::Loop, (0..n).find(|v| rules::is_looped(starts, links, *v)))?;
+    refuse(Rule::Unsorted, (0..n).find(|v| rules::is_unsorted(starts, links, *v)))?;
+    refuse(Rule::Unreturned, rules::first_unreturned(starts, links))
 }
 
-// Refusals 1 to 8, or `Passed`: the lowest number first, each tested over the whole table.
-pub fn test_table(starts: &[u16], links: &[u16]) -> Guard
+// Refusals 1 to 8: the lowest number first, each tested over the whole table.
+pub fn test_table(starts: &[u16], links: &[u16]) -> Result<(), Refusal>
     ensures { result ≡ check_of starts.now links.now }
 {
-    if starts.len() == 0 {
-        return refused(1, 0);
+    if starts.is_empty() {
+        return Err(Refusal::new(Rule::NoStarts, 0));
     }
-    let n = starts.len() - 1;
-    if 1024 < n {
-        return refused(2, 0);
+    if 1024 < starts.len() - 1 {
+        return Err(Refusal::new(Rule::ManyVertices, 0));
     }
     if 16384 < links.len() {
-        return refused(3, 0);
+        return Err(Refusal::new(Rule::ManyLinks, 0));
     }
-    let start = rules::first_bad_start(starts, links);
-    if start < starts.len() {
-        return refused(4, start);
-    }
+    refuse(Rule::Starts, rules::first_bad_start(starts, links))?;
     if paired::all_paired(starts, links) {
-        return Guard::Passed;
+        return Ok(());
     }
-    let far = rules::first_breaking(starts, links, 5);
-    if far < n {
-        return refused(5, far);
-    }
-    let own = rules::first_breaking(starts, links, 6);
-    if own < n {
-        return refused(6, own);
-    }
-    let unsorted = rules::first_breaking(starts, links, 7);
-    if unsorted < n {
-        return refused(7, unsorted);
-    }
-    let alone = rules::first_unreturned(starts, links);
-    if alone < n {
-        return refused(8, alone);
-    }
-    Guard::Passed
+    test_links(starts, links)
 }
 
-// The check of a table.
-pub fn check(starts: &[u16], links: &[u16]) -> Checked
-    ensures { result ≡ answer (check_of starts.now links.now) (Sound (size_of starts.now links.now)) RefusedTable }
+// The check of a table: its size.
+pub fn check(starts: &[u16], links: &[u16]) -> Result<Size, Refusal>
+    ensures { result ≡ answer (check_of starts.now links.now) (Ok (size_of starts.now links.now)) Err }
 {
-    let tested = test_table(starts, links);
-    match tested {
-        Guard::Refused(refusal) => Checked::Refused(refusal),
-        Guard::Passed => Checked::Sound(size::measure(starts, links)),
-    }
+    test_table(starts, links)?;
+    Ok(Size::measure(starts, links))
 }

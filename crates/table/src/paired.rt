@@ -11,29 +11,21 @@ fn pair_lower(starts: &[u16], links: &[u16], v: usize, next: &mut [u16; 1024]) -
     ensures { result ≡ true → Paired starts.now links.now (v + 1) next.new }
 {
     let end = starts[v + 1];
-    let mut at = starts[v];
     let mut least: usize = 0;
-    while at < end {
+    for at in starts[v]..end {
         let u = links[at as usize] as usize;
         if v <= u {
             next[v] = at;
             return true;
         }
-        if u < least {
-            return false;
-        }
         let place = next[u];
-        if starts[u + 1] <= place {
-            return false;
-        }
-        if links[place as usize] as usize != v {
+        if u < least || starts[u + 1] <= place || links[place as usize] as usize != v {
             return false;
         }
         next[u] = place + 1;
         least = u + 1;
-        at += 1;
     }
-    next[v] = at;
+    next[v] = end;
     true
 }
 
@@ -42,15 +34,7 @@ fn all_spent(starts: &[u16], next: &[u16; 1024]) -> bool
     requires { (0 < length starts.now) × (vertices starts.now ≤ 1024) }
     ensures { result ≡ true → Spent starts.now next.now }
 {
-    let n = starts.len() - 1;
-    let mut v: usize = 0;
-    while v < n {
-        if next[v] != starts[v + 1] {
-            return false;
-        }
-        v += 1;
-    }
-    true
+    starts[1..].iter().zip(next).all(|(end, at)| at == end)
 }
 
 // Whether every link is paired: then the table is sound. A link of n or more and a link to oneself never are.
@@ -59,14 +43,11 @@ pub fn all_paired(starts: &[u16], links: &[u16]) -> bool
     requires starts_bound { (vertices starts.now ≤ 1024) × (length links.now ≤ 16384) }
     ensures { result ≡ true → SoundTable starts.now links.now }
 {
-    let n = starts.len() - 1;
     let mut next = [0u16; 1024];
-    let mut v: usize = 0;
-    while v < n {
+    for v in 0..starts.len() - 1 {
         if !pair_lower(starts, links, v, &mut next) {
             return false;
         }
-        v += 1;
     }
     all_spent(starts, &next)
 }
