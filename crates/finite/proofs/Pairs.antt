@@ -1,12 +1,15 @@
 -- The order of pairs, and induction on numbers and on pairs. Assumes nothing.
 use mathlib.Core.Path.{◌≡◌, ◌∙◌, subst}
-use mathlib.Core.Bool.{not}
+use Rattle.std.specs.Prelude.{Some}
+use Rattle.std.specs.Ordering.{nat_cmp, partial_le, partial_ordering_then}
+use mathlib.Core.Bool.{not, true, false}
 use Prim.Native.Nat.{ℕ, zero, suc, ◌+◌, ◌≤◌, ◌<◌, zero-le}
 use native.Mathlib.Nat.{not-suc-le-zero}
 use native.Mathlib.Omega.{arith}
-use lib.Dec.{T, leb, ltb, eqb, leb→le, le→leb, nleb→lt, T_not, not_T, eqb→eq, eqb_refl}
+use lib.Dec.{T, leb, ltb, eqb, ltb→lt, nltb→le, leb→le, le→leb, nleb→lt, T_not, not_T, eqb→eq, eqb_refl}
 use Rattle.finite.specs.Pairs.{pair_le}
-use Rattle.finite.proofs.Tests.{and_i, and_l, and_r, or_l, or_r, or-e, split, same}
+use Rattle.finite.proofs.Tests.{and_i, and_l, and_r, or_l, or_r, or-e, split, same, true_of, false_of}
+use borrow.Author.Tests.{lt-leb, eqb-false}
 
 pub pair_lt : (k l i j : ℕ) → k < i → T (pair_le k l i j)
 unfolding pair_le
@@ -66,3 +69,17 @@ strong Q f m = bounded Q f (suc m) m (omega arith)
 -- induction on all smaller pairs
 pub pair_ind : (Q : ℕ → ℕ → Type 0) → ((k l : ℕ) → ((i j : ℕ) → i < k → Q i j) → ((j : ℕ) → j < l → Q k j) → Q k l) → (k l : ℕ) → Q k l
 pair_ind Q f = strong (λ k. (l : ℕ) → Q k l) (λ k r. strong (Q k) (λ l s. f k l (λ i j h. r i h j) s))
+
+-- the order of pairs as the library compares them
+pub pair_le-compared : (k l i j : ℕ) → partial_le (λ (x y : ℕ × ℕ). partial_ordering_then (Some (nat_cmp x.0 y.0)) (Some (nat_cmp x.1 y.1))) (k, l) (i, j) ≡ pair_le k l i j
+unfolding pair_le
+pair_le-compared k l i j =
+    split (ltb k i)
+    (λ t. rw (true_of (ltb k i) t))
+    (λ f. split (eqb k i)
+    (λ e. split (ltb l j)
+    (λ less. let m : leb l j ≡ true = true_of (leb l j) (le→leb l j (omega (arith, ltb→lt l j less))) in rw (false_of (ltb k i) f, true_of (eqb k i) e, true_of (ltb l j) less, m))
+    (λ no. split (eqb l j)
+    (λ same_l. let m : leb l j ≡ true = true_of (leb l j) (le→leb l j (omega (arith, eqb→eq l j same_l))) in rw (false_of (ltb k i) f, true_of (eqb k i) e, false_of (ltb l j) no, true_of (eqb l j) same_l, m))
+    (λ other. let m : leb l j ≡ false = lt-leb l j (let ne = eqb-false l j (false_of (eqb l j) other) in omega (arith, nltb→le l j no)) in rw (false_of (ltb k i) f, true_of (eqb k i) e, false_of (ltb l j) no, false_of (eqb l j) other, m))))
+    (λ e. rw (false_of (ltb k i) f, false_of (eqb k i) e)))

@@ -12,7 +12,7 @@ use lib.Seq.{take-suc}
 use lib.Dec.{T, leb, ltb, eqb, leb→le, le→leb, ltb→lt, nleb→lt, nltb→le, T_not, not_T, eqb→eq, eqb_refl}
 use Rattle.std.specs.Prelude.{Option, Some, None, Result, Ok, Err, is_ok, MatchResult}
 use Rattle.std.specs.Option.{option_map}
-use Rattle.std.specs.List.{find, range_with_len, position_or_len, IsAllAdjacentAnswer}
+use Rattle.std.specs.List.{list_all, list_any, find, range_with_len, position_or_len, IsAllAdjacentAnswer}
 use Rattle.std.specs.List.Sorted.{IsBinarySearchResult}
 use Rattle.std.specs.Ordering.{nat_cmp}
 use Rattle.std.proofs.lemmas.List.Sorted.{searched}
@@ -476,3 +476,14 @@ searched-member xs x r t h = go r (searched xs x r h (λ i j le less. ⊎_elim (
     go (Err i) parted = sym (any_none (eqb x) xs (λ k less. ne_eqb x (get_or xs k 0) (λ e. split (leb i k)
         (λ q. omega (arith, parted.2 k (leb→le i k q) less))
         (λ q. omega (arith, parted.1 k (omega (arith, nleb→lt i k q)))))))
+
+-- `all` and `any` over a slice
+pub list_all-all : (p : ℕ → Bool) (xs : List ℕ) → list_all p xs ≡ all p xs
+unfolding all
+list_all-all p [] = refl
+list_all-all p (x ∷ xs) = ap (λ b. p x && b) (list_all-all p xs)
+
+pub list_any-any : (p : ℕ → Bool) (xs : List ℕ) → list_any p xs ≡ any p xs
+unfolding any
+list_any-any p [] = refl
+list_any-any p (x ∷ xs) = ap (λ b. p x || b) (list_any-any p xs)

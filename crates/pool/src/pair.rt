@@ -2,13 +2,13 @@
 ghost use Rattle.std.specs.Prelude.{◌≡◌, not, ◌<◌, length, get_or, ltb};
 ghost use Rattle.finite.specs.Pairs.{pair_le};
 
-#[derive(Clone, Copy)]
+#[derive(Clone, Copy, Debug, PartialEq, Eq)]
 pub struct Level(pub u16);
 
-#[derive(Clone, Copy)]
+#[derive(Clone, Copy, Debug, PartialEq, Eq)]
 pub struct Layer(pub u16);
 
-#[derive(Clone, Copy)]
+#[derive(Clone, Copy, Debug, PartialEq, Eq)]
 pub struct Pair {
     pub level: Level,
     pub layer: Layer,
@@ -26,17 +26,7 @@ impl Pair {
     pub fn at_or_above(self, other: Pair) -> bool
         ensures { result ≡ pair_le other.level.0 other.layer.0 self.level.0 self.layer.0 }
     {
-        let level = self.level.0;
-        let floor = other.level.0;
-        if floor < level {
-            return true;
-        }
-        if floor == level {
-            let layer = self.layer.0;
-            let least = other.layer.0;
-            return least <= layer;
-        }
-        false
+        (other.level.0, other.layer.0) <= (self.level.0, self.layer.0)
     }
 }
 

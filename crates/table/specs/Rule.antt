@@ -1,7 +1,7 @@
 -- A refusal: the number and the place that document 01 gives it. The code names the rules.
 use Rattle.std.specs.Prelude.{ℕ}
 use Rattle.table.specs.declared.refusal.Rule.{Rule}
-use Rattle.table.specs.declared.refusal.Rule.TheVariants.{NoStarts, ManyVertices, ManyLinks, Starts, Beyond, Loop, Unsorted, Unreturned, Length, Kind, TooMany, Lent, SheetLength, Misplaced, NoVertex, Anchored, LongText, Departs, LowLevel, HighLevel, EarlyLayer, Edge, Full, ManyTerms, EmptyTerm, Houses, NoHouse}
+use Rattle.table.specs.declared.refusal.Rule.TheVariants.{NoStarts, ManyVertices, ManyLinks, Starts, Beyond, Loop, Unsorted, Unreturned, Length, Byte, TooMany, Lent, SheetLength, Misplaced, NoVertex, Anchored, LongText, Departs, LowLevel, HighLevel, EarlyLayer, Edge, Full, ManyTerms, EmptyTerm, Houses, NoHouse}
 
 pub record Refusal : Type 0 where
   pub number : ℕ
@@ -18,7 +18,7 @@ rule_number Loop = 6
 rule_number Unsorted = 7
 rule_number Unreturned = 8
 rule_number Length = 9
-rule_number Kind = 10
+rule_number Byte = 10
 rule_number TooMany = 11
 rule_number Lent = 12
 rule_number SheetLength = 13

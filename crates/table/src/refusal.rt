@@ -19,7 +19,7 @@ pub enum Rule {
     Unsorted = 7,
     Unreturned = 8,
     Length = 9,
-    Kind = 10,
+    Byte = 10, // or the kind of an event
     TooMany = 11,
     Lent = 12,
     SheetLength = 13,
