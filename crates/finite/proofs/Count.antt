@@ -498,3 +498,17 @@ length-filter p (x ∷ xs) =
     split (p x)
     (λ t. rw (true_of (p x) t) (ap suc (length-filter p xs) ∙ omega arith))
     (λ f. rw (false_of (p x) f) (length-filter p xs ∙ omega arith))
+
+-- ---- a count over the numbers that a loop has come to
+
+abbrev pub Counted : (ℕ → Bool) → List ℕ → ℕ → ℕ → Type 0
+Counted p part i total = (total ≤ i) × (total ≡ count p (take i part))
+
+pub counted-none : (p : ℕ → Bool) (part : List ℕ) → Counted p part 0 0
+counted-none p part = (omega arith, sym (count-start p part))
+
+pub counted_more : (p : ℕ → Bool) (part : List ℕ) (i total : ℕ) (passed : Bool) → i < length part → passed ≡ p (get_or part i 0) → Counted p part i total → Counted p part (i + 1) (total + bit passed)
+counted_more p part i total passed h e counted = omega (arith, ap bit e, bit_le passed, count-more p part i h)
+
+pub counted-all : (p : ℕ → Bool) (part : List ℕ) (i total : ℕ) → length part ≤ i → Counted p part i total → total ≡ count p part
+counted-all p part i total h counted = counted.1 ∙ count-end p part i h

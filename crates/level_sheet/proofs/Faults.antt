@@ -1,19 +1,24 @@
 -- The lowest fault of one pass is the refusal that the tests give, each over the whole sheet. Assumes nothing.
 use mathlib.Core.Path.{◌≡◌, refl, sym, ◌∙◌}
-use mathlib.Core.Bool.{Bool, true, false, cond}
-use Prim.Native.Nat.{ℕ, ◌+◌, ◌≤◌, ◌<◌}
+use mathlib.Core.Bool.{Bool, true, false, cond, ◌&&◌}
+use Prim.Native.Nat.{ℕ, ◌+◌, ◌-◌, ◌≤◌, ◌<◌}
 use native.Mathlib.Omega.{arith}
-use lib.Dec.{leb, eqb, leb→le, nleb→lt}
+use lib.Dec.{leb, ltb, eqb, leb→le, nleb→lt, ltb→lt, nltb→le}
 use borrow.Author.Count.{below_more}
-use borrow.Author.Tests.{eq-eqb, ne_eqb}
+use borrow.Author.Tests.{eq-eqb, ne_eqb, eqb-false}
 use Rattle.finite.specs.Search.{NoneBelow}
 use Rattle.finite.proofs.Tests.{split, true_of, false_of}
 use Rattle.finite.proofs.Search.{first_hit}
 use Rattle.table.specs.Guard.{refused, refuse}
+use Rattle.std.specs.Prelude.{Some, Err}
+use mathlib.Core.Logic.{inl, inr}
+use Rattle.table.specs.Rule.{Refusal}
 use Rattle.table.specs.Guard.{Guard}
 use Rattle.table.specs.Guard.{clear}
 use Rattle.table.proofs.Laws.{hit, pass}
-use Rattle.level_sheet.specs.Faults.{Lowest}
+use Rattle.anchored.specs.Graph.{Graph}
+use Rattle.anchored.specs.Sheet.{support, misplaced, too_high, too_low, too_late}
+use Rattle.level_sheet.specs.Faults.{IsNumbered, Lowest, fault_at}
 
 -- ---- the pass
 
@@ -121,3 +126,50 @@ module _ (k low : ℕ) (p : ℕ → Bool) (f : ℕ → ℕ) (n : ℕ) (rest : Gu
     above = above-k;
     decides = λ number place lowest. split (leb number k) (λ t. found number place lowest (leb→le number k t)) (λ t. unfound number place lowest (nleb→lt number k t));
   }
+
+-- ---- the fault of one vertex, by the ways of the code
+
+module _ (G : Graph) (A : ℕ → Bool) (lev lay : ℕ → ℕ) (v : ℕ) where
+  pub out-of-place : misplaced G A lev lay v ≡ true → fault_at G A lev lay v ≡ 14
+  out-of-place e = rw e
+
+  module _ (placed : misplaced G A lev lay v ≡ false) where
+    pub anchored-fits : A v ≡ true → fault_at G A lev lay v ≡ 65535
+    unfolding too_high too_low too_late
+    anchored-fits anchored = rw (placed, too_high, too_low, too_late, anchored)
+
+    module _ (free : A v ≡ false) where
+      free-fault : fault_at G A lev lay v
+          ≡ cond (ltb (support G A lev lay v (lev v) 0) (lev v)) 19
+          (cond (ltb (lev v) (support G A lev lay v (lev v) (lay v))) 20
+          (cond (ltb 1 (lay v) && leb (support G A lev lay v (lev v) (lay v - 1)) (lev v)) 21 65535))
+      unfolding too_high too_low too_late
+      free-fault = rw (placed, too_high, too_low, too_late, free)
+
+      pub free-layer : lay v ≡ 0 → ⊥
+      unfolding misplaced
+      free-layer = eqb-false (lay v) 0 (rw (misplaced, free) at placed)
+
+-- the three counts of a vertex that is not anchored and whose entry is in place
+pub record Counts (G : Graph) (A : ℕ → Bool) (lev lay : ℕ → ℕ) (v level pair before : ℕ) : Type 0 where
+  pub placed : misplaced G A lev lay v ≡ false
+  pub free : A v ≡ false
+  pub in_level : level ≡ support G A lev lay v (lev v) 0
+  pub in_pair : pair ≡ support G A lev lay v (lev v) (lay v)
+  pub in_before : before ≡ support G A lev lay v (lev v) (lay v - 1)
+
+-- they decide
+pub counted : (G : Graph) (A : ℕ → Bool) (lev lay : ℕ → ℕ) (v level pair before : ℕ) → Counts G A lev lay v level pair before → fault_at G A lev lay v ≡ cond (ltb level (lev v)) 19 (cond (ltb (lev v) pair) 20 (cond (ltb 1 (lay v) && leb before (lev v)) 21 65535))
+counted G A lev lay v level pair before counts = free-fault G A lev lay v counts.placed counts.free ∙ rw (counts.in_level, counts.in_pair, counts.in_before)
+
+-- the next entry, by the fault that it has or not
+pub lowest-next : (f : ℕ → ℕ) (n number place number' place' own : ℕ) → own ≡ f n → Lowest f n number place → number' ≡ cond (ltb own number) own number → place' ≡ cond (ltb own number) n place → Lowest f (n + 1) number' place'
+lowest-next f n number place number' place' own is low en ep =
+    split (ltb own number)
+    (λ t. rw (en, ep, true_of (ltb own number) t, is) (lowest-take f n number place low (omega (arith, is, ltb→lt own number t))))
+    (λ no. rw (en, ep, false_of (ltb own number) no) (lowest-keep f n number place low (omega (arith, is, nltb→le own number no))))
+
+-- what a pass finds is the answer that its number gives
+pub numbered-answer : (r : Refusal) → IsNumbered (Some r) → answer_by r.number r.place ≡ Err r
+numbered-answer r (inl less) = rw (ne_eqb r.number 65535 (λ e. omega arith))
+numbered-answer r (inr none) = cc

@@ -8,8 +8,9 @@ use Rattle.anchored.specs.Core.{level, layer}
 use Rattle.anchored.specs.Sheet.{misplaced, too_high, too_low, too_late}
 use Rattle.pool.specs.Arrays.{Holds}
 use Rattle.pool.specs.Input.{graph_of, anchored_by, admit_of}
-use Rattle.level_sheet.specs.declared.check.SheetChecked.{SheetChecked}
-use Rattle.level_sheet.specs.declared.check.SheetChecked.TheVariants.{Defined, Refused}
+use Rattle.std.specs.Prelude.{Result, Ok, Err}
+use Rattle.table.specs.Rule.{Refusal}
+use Rattle.table.specs.declared.size.Size.{Size}
 
 -- 13 for either half not n long; then 14, 19, 20 and 21, each tested over the whole sheet, with the lowest vertex that fails it
 unfoldable pub sheet_of : List ℕ → List ℕ → List ℕ → List ℕ → List ℕ → Guard
@@ -40,9 +41,9 @@ pub record Accepted (s l a lev lay : List ℕ) : Type 0 where
   pub layers_hold : Holds lay (vertices s) (layer (graph_of s l) (anchored_by a))
 
 -- the number of an answer; 0 is acceptance
-abbrev pub number_in : SheetChecked → ℕ
-number_in (Defined size) = 0
-number_in (Refused r) = r.number
+abbrev pub number_in : Result Size Refusal → ℕ
+number_in (Ok size) = 0
+number_in (Err r) = r.number
 
 -- accepted, or refused with 20 or 21
 abbrev pub bounds : ℕ → Bool

@@ -1,7 +1,7 @@
 -- A refusal: the number and the place that document 01 gives it. The code names the rules.
 use Rattle.std.specs.Prelude.{ℕ}
 use Rattle.table.specs.declared.refusal.Rule.{Rule}
-use Rattle.table.specs.declared.refusal.Rule.TheVariants.{NoStarts, ManyVertices, ManyLinks, Starts, Beyond, Loop, Unsorted, Unreturned, Length, Byte, TooMany, Lent, SheetLength, Misplaced, NoVertex, Anchored, LongText, Departs, LowLevel, HighLevel, EarlyLayer, Edge, Full, ManyTerms, EmptyTerm, Houses, NoHouse}
+use Rattle.table.specs.declared.refusal.Rule.TheVariants.{NoStarts, ManyVertices, ManyLinks, Starts, Beyond, Loop, Unsorted, Unreturned, Length, Byte, TooMany, Lent, SheetLength, Misplaced, NoVertex, Anchored, LongText, Departs, TooHigh, TooLow, TooLate, Edge, Full, ManyTerms, EmptyTerm, Houses, NoHouse}
 
 pub record Refusal : Type 0 where
   pub number : ℕ
@@ -27,9 +27,9 @@ rule_number NoVertex = 15
 rule_number Anchored = 16
 rule_number LongText = 17
 rule_number Departs = 18
-rule_number LowLevel = 19
-rule_number HighLevel = 20
-rule_number EarlyLayer = 21
+rule_number TooHigh = 19
+rule_number TooLow = 20
+rule_number TooLate = 21
 rule_number Edge = 22
 rule_number Full = 23
 rule_number ManyTerms = 24
