@@ -1,16 +1,17 @@
-// The lines of the text, a function for each kind of form. A line that is read is kept with its number and its form.
+// The lines of the text, a function for each kind of form. A line that is read is kept with its number and its form,
+// and beside it stands what it says; a line that departs from its form is `None`.
 ghost use Rattle.std.specs.Prelude.{◌≡◌, ◌+◌, ◌≤◌, length};
 ghost use Rattle.std.proofs.lemmas.List.Edits.{sets};
+ghost use Rattle.reader.specs.Number.{placed};
 ghost use Rattle.lines.specs.List.{first_beyond, anchor};
-ghost use Rattle.lines.specs.Line.{riders_at, rider_at, retained_at, rounds_at, number_of_form, kept_form, kept_list};
+ghost use Rattle.lines.specs.Line.{riders_at, rider_at, retained_at, rounds_at, kept_form, kept_list};
 ghost use Rattle.lines.specs.declared.line.Form.{Form};
 
-use crate::list::{Listed, take_neighbors, take_retained};
-use reader::form::{Next, skip, take_form};
-use reader::number::{Cursor, Number};
+use crate::list::{take_neighbors, take_retained};
+use reader::Reader;
 
 // What kind of form a line has, with that form's single number.
-#[derive(Drop)]
+#[derive(Clone, Copy, Debug, PartialEq, Eq)]
 pub enum Form {
     Riders(u16),
     Rider(u16),
@@ -19,102 +20,72 @@ pub enum Form {
 }
 
 // A line that was read: its number, from 1, and its form.
-#[derive(Drop)]
+#[derive(Clone, Copy, Debug, PartialEq, Eq)]
 pub struct Line {
     pub number: usize,
     pub form: Form,
 }
 
-// A line, what its list came to (0 where it has none) and the cursor after it; or that the line departs from its form.
-#[derive(Drop)]
-pub enum LineRead {
-    Kept(Line, usize, Cursor),
-    Departs,
-}
-
-// A form's single number, 0 where it has none.
-pub fn number_of(form: Form) -> u16
-    ensures { result ≡ number_of_form form }
+// `(riders n)`, which says n.
+pub fn riders_line(reader: &mut Reader, number: usize) -> Option<(Line, u16)>
+    ensures value { placed result reader.new.at ≡ kept_form number Form.Riders (riders_at reader.old.text.now reader.old.at) }
+    ensures text { reader.new.text ≡ reader.old.text }
 {
-    match form {
-        Form::Riders(n) => n,
-        Form::Rider(v) => v,
-        Form::Retained => 0,
-        Form::Rounds(r) => r,
-    }
-}
-
-// `(riders n)`
-pub fn riders_line(text: &[u8], from: Cursor, number: usize) -> LineRead
-    ensures { result ≡ kept_form number Form.Riders (riders_at text.now from.at) }
-{
-    let Number::Value(n, next) = take_form(text, from, b"(riders ", b")\n") else {
-        return LineRead::Departs;
-    };
+    let n = reader.form(b"(riders ", b")\n")?;
     let form = Form::Riders(n);
-    LineRead::Kept(Line { number, form }, 0, next)
+    Some((Line { number, form }, n))
 }
 
-// `(rider v (with ..))`: the neighbors go to the links, of which there are `before` already; the count is that of all.
+// `(rider v (with ..))`: the neighbors go to the links, of which there are `before` already; it says how many there are
+// with them.
 pub fn rider_line(
-    text: &[u8],
-    from: Cursor,
+    reader: &mut Reader,
     number: usize,
     v: u16,
     links: &mut [u16],
     before: usize,
-) -> LineRead
-    requires { before ≤ from.at }
-    ensures value { result ≡ kept_list number (Form.Rider v) (before + length (rider_at text.now v from.at).values) (rider_at text.now v from.at) }
-    ensures links_value { links.new ≡ sets links.old before (rider_at text.now v from.at).values }
+) -> Option<(Line, usize)>
+    requires { before ≤ reader.old.at }
+    ensures value { let r = rider_at reader.old.text.now v reader.old.at in
+        placed result reader.new.at ≡ kept_list number (Form.Rider v) (before + length r.values) r }
+    ensures text { reader.new.text ≡ reader.old.text }
+    ensures links_value { links.new ≡ sets links.old before (rider_at reader.old.text.now v reader.old.at).values }
 {
-    let Number::Value(rider, first) = take_form(text, from, b"(rider ", b" (with") else {
-        return LineRead::Departs;
-    };
+    let rider = reader.form(b"(rider ", b" (with")?;
     if rider != v {
-        return LineRead::Departs;
+        return None;
     }
-    let Listed::Ends(count, last) = take_neighbors(text, first, links, before) else {
-        return LineRead::Departs;
-    };
-    let Next::To(next) = skip(text, last, b"))\n") else {
-        return LineRead::Departs;
-    };
+    let count = take_neighbors(reader, links, before)?;
+    reader.skip(b"))\n")?;
     let form = Form::Rider(v);
-    LineRead::Kept(Line { number, form }, count, next)
+    Some((Line { number, form }, count))
 }
 
-// `(retained ..)`: the numbers go to the anchored bytes; what the list came to is its first number of n or more.
+// `(retained ..)`: the numbers go to the anchored bytes; it says its first number of n or more, if it has one.
 pub fn retained_line(
-    text: &[u8],
-    from: Cursor,
+    reader: &mut Reader,
     number: usize,
     n: u16,
     anchored: &mut [u8],
-) -> LineRead
-    ensures value { result ≡ kept_list number Form.Retained (first_beyond n (retained_at text.now from.at).values) (retained_at text.now from.at) }
-    ensures anchored_value { anchored.new ≡ anchor anchored.old (retained_at text.now from.at).values }
+) -> Option<(Line, Option<u16>)>
+    ensures value { let r = retained_at reader.old.text.now reader.old.at in
+        placed result reader.new.at ≡ kept_list number Form.Retained (first_beyond n r.values) r }
+    ensures text { reader.new.text ≡ reader.old.text }
+    ensures anchored_value { anchored.new ≡ anchor anchored.old (retained_at reader.old.text.now reader.old.at).values }
 {
-    let Next::To(first) = skip(text, from, b"(retained") else {
-        return LineRead::Departs;
-    };
-    let Listed::Ends(beyond, last) = take_retained(text, first, n, anchored) else {
-        return LineRead::Departs;
-    };
-    let Next::To(next) = skip(text, last, b")\n") else {
-        return LineRead::Departs;
-    };
+    reader.skip(b"(retained")?;
+    let beyond = take_retained(reader, n, anchored)?;
+    reader.skip(b")\n")?;
     let form = Form::Retained;
-    LineRead::Kept(Line { number, form }, beyond, next)
+    Some((Line { number, form }, beyond))
 }
 
-// `(rounds r)`
-pub fn rounds_line(text: &[u8], from: Cursor, number: usize) -> LineRead
-    ensures { result ≡ kept_form number Form.Rounds (rounds_at text.now from.at) }
+// `(rounds r)`, which says r.
+pub fn rounds_line(reader: &mut Reader, number: usize) -> Option<(Line, u16)>
+    ensures value { placed result reader.new.at ≡ kept_form number Form.Rounds (rounds_at reader.old.text.now reader.old.at) }
+    ensures text { reader.new.text ≡ reader.old.text }
 {
-    let Number::Value(r, next) = take_form(text, from, b"(rounds ", b")\n") else {
-        return LineRead::Departs;
-    };
+    let r = reader.form(b"(rounds ", b")\n")?;
     let form = Form::Rounds(r);
-    LineRead::Kept(Line { number, form }, 0, next)
+    Some((Line { number, form }, r))
 }

@@ -1,11 +1,5 @@
 -- A number at a place of the text: decimal, without leading zeros, at most 65,535. The laws are in proofs/Numbers.
-use Rattle.std.specs.Prelude.{Bool, true, false, not, cond, ◌&&◌, List, [], ◌∷◌, ℕ, ◌+◌, ◌*◌, ◌-◌, length, get_or, drop, ltb, leb, eqb}
-use Rattle.reader.specs.declared.number.Cursor.{Cursor}
-use Rattle.reader.specs.declared.number.Number.{Number}
-
--- a place of the text, as the code's cursor
-abbrev pub cursor : ℕ → Cursor
-cursor p = record { at = p }
+use Rattle.std.specs.Prelude.{Bool, true, false, not, cond, ◌&&◌, List, [], ◌∷◌, ℕ, ◌+◌, ◌*◌, ◌-◌, length, get_or, drop, ltb, leb, eqb, Option, Some, None}
 
 -- a byte as a digit, 10 where it is none
 abbrev pub digit_of : ℕ → ℕ
@@ -14,6 +8,10 @@ digit_of b = cond (ltb b 48) 10 (cond (leb b 57) (b - 48) 10)
 -- the digit at a place of the text, 10 where there is none
 unfoldable pub digit_at : List ℕ → ℕ → ℕ
 digit_at t p = digit_of (get_or t p 0)
+
+-- the digit at a place of the text, if there is one
+abbrev pub digit_found : List ℕ → ℕ → Option ℕ
+digit_found t p = cond (ltb (digit_at t p) 10) (Some (digit_at t p)) None
 
 -- the digits that some bytes begin with
 unfoldable pub digits : List ℕ → List ℕ
@@ -31,15 +29,20 @@ unpadded [] = false
 unpadded (d ∷ []) = true
 unpadded (d ∷ e ∷ ds) = not (eqb d 0)
 
--- the number that digits from place p on make, with the cursor after them
-unfoldable pub number_of : ℕ → List ℕ → Number
-number_of p ds = cond (unpadded ds && leb (value 0 ds) 65535) (Number.Value (value 0 ds) (cursor (p + length ds))) Number.Missing
+-- the number that digits from place p on make, with the place behind them
+unfoldable pub number_of : ℕ → List ℕ → Option (ℕ × ℕ)
+number_of p ds = cond (unpadded ds && leb (value 0 ds) 65535) (Some (value 0 ds, p + length ds)) None
 
 -- the number taken off the front of the text from place p on
-abbrev pub number_at : List ℕ → ℕ → Number
+abbrev pub number_at : List ℕ → ℕ → Option (ℕ × ℕ)
 number_at t p = number_of p (digits (drop p t))
 
--- what is answered of a number and the place after it, and where there is none
-abbrev pub on_number : {A : Type 0} → Number → (ℕ → ℕ → A) → A → A
-on_number (Number.Value v c) found missing = found v c.at
-on_number Number.Missing found missing = missing
+-- what is answered of a number and the place behind it, and where there is none
+abbrev pub on_number : {A : Type 0} → Option (ℕ × ℕ) → (ℕ → ℕ → A) → A → A
+on_number (Some r) found missing = found r.0 r.1
+on_number None found missing = missing
+
+-- what was read, with the place behind it
+abbrev pub placed : {A : Type 0} → Option A → ℕ → Option (A × ℕ)
+placed (Some a) p = Some (a, p)
+placed None p = None

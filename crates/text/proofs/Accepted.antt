@@ -9,22 +9,18 @@ use lib.ListN.{length, drop, length-drop}
 use lib.Seq.{drop-length}
 use lib.Dec.{T}
 use borrow.Author.Tests.{eq-eqb}
+use Rattle.std.specs.Prelude.{Option, Some, None, Ok}
 use Rattle.finite.specs.Bytes.{bytes, decimal}
 use Rattle.finite.specs.Count.{In}
 use Rattle.finite.specs.Search.{ascending}
 use Rattle.finite.proofs.Tests.{true_of, of_true}
 use Rattle.finite.proofs.Count.{in_append, flatten_append}
-use Rattle.reader.specs.Number.{cursor}
 use Rattle.reader.specs.Form.{on_next, form_at}
 use Rattle.lines.specs.List.{Numbers, list_at}
 use Rattle.lines.specs.Line.{riders_at, rider_at, retained_at, rounds_at}
 use Rattle.text.specs.Text.{Lists, more_lists, rider_lines_from, rider_lines_at, rest_of, reading_of, links_read, retained_read}
 use Rattle.text.specs.Spelling.{spelled_list, riders_line, rider_line, retained_line, rounds_line, rider_lines, Content, lines_of, spell, WellFormed, summary_of, content_of}
-use Rattle.reader.specs.declared.number.Cursor.{Cursor}
-use Rattle.reader.specs.declared.number.Number.{Number}
-use Rattle.reader.specs.declared.form.Next.{Next}
 use Rattle.text.specs.declared.read.Summary.{Summary}
-use Rattle.text.specs.declared.read.Reading.{Reading}
 use Rattle.reader.proofs.Numbers.{number_small}
 use Rattle.reader.proofs.Forms.{form_parts, form_in}
 use Rattle.lines.proofs.Lines.{rider_head, rider_with, rider_tail, retained_head, line_tail, rider_parts, retained_parts}
@@ -38,8 +34,8 @@ Small l = (w : ℕ) → In w l → w ≤ 65535
 -- ---- each line that is read is spelled
 
 -- a number that a form has is at most 65,535
-form_small : (t : List ℕ) (p : ℕ) (head tail : List ℕ) (v : ℕ) (c : Cursor) → form_at t p head tail ≡ Number.Value v c → v ≤ 65535
-form_small t p head tail v c e = let f = form_parts t p head tail v c e in number_small t f.first.at v f.last f.number
+form_small : (t : List ℕ) (p : ℕ) (head tail : List ℕ) (v : ℕ) (c : ℕ) → form_at t p head tail ≡ Some (v, c) → v ≤ 65535
+form_small t p head tail v c e = let f = form_parts t p head tail v c e in number_small t f.first v f.last f.number
 
 -- three parts and five parts with a rest behind them
 pub regroup_three : (a b c rest : List ℕ) → a ++ (b ++ (c ++ rest)) ≡ (a ++ (b ++ c)) ++ rest
@@ -49,65 +45,65 @@ pub regroup_five : (a b c d e rest : List ℕ) → a ++ (b ++ (c ++ (d ++ (e ++ 
 regroup_five a b c d e rest = simp append_assoc
 
 -- (riders n)
-pub riders_text : (t : List ℕ) (p n : ℕ) (c : Cursor) → riders_at t p ≡ Number.Value n c → (drop p t ≡ riders_line n ++ drop c.at t) × (n ≤ 65535)
+pub riders_text : (t : List ℕ) (p n : ℕ) (c : ℕ) → riders_at t p ≡ Some (n, c) → (drop p t ≡ riders_line n ++ drop c t) × (n ≤ 65535)
 unfolding riders_line
 riders_text t p n c e =
     let head = bytes "(riders " in
-    (form_text t p head line_tail n c e ∙ regroup_three head (decimal n) line_tail (drop c.at t), form_small t p head line_tail n c e)
+    (form_text t p head line_tail n c e ∙ regroup_three head (decimal n) line_tail (drop c t), form_small t p head line_tail n c e)
 
 -- (rounds r)
-pub rounds_text : (t : List ℕ) (p r : ℕ) (c : Cursor) → rounds_at t p ≡ Number.Value r c → (drop p t ≡ rounds_line r ++ drop c.at t) × (r ≤ 65535)
+pub rounds_text : (t : List ℕ) (p r : ℕ) (c : ℕ) → rounds_at t p ≡ Some (r, c) → (drop p t ≡ rounds_line r ++ drop c t) × (r ≤ 65535)
 unfolding rounds_line
 rounds_text t p r c e =
     let head = bytes "(rounds " in
-    (form_text t p head line_tail r c e ∙ regroup_three head (decimal r) line_tail (drop c.at t), form_small t p head line_tail r c e)
+    (form_text t p head line_tail r c e ∙ regroup_three head (decimal r) line_tail (drop c t), form_small t p head line_tail r c e)
 
 -- (rider v (with ..))
-pub rider_text : (t : List ℕ) (v p : ℕ) (c : Cursor) → (rider_at t v p).next ≡ Next.To c → (drop p t ≡ rider_line v (rider_at t v p).values ++ drop c.at t) × Small (rider_at t v p).values
+pub rider_text : (t : List ℕ) (v p : ℕ) (c : ℕ) → (rider_at t v p).next ≡ Some c → (drop p t ≡ rider_line v (rider_at t v p).values ++ drop c t) × Small (rider_at t v p).values
 unfolding rider_line
 rider_text t v p c e =
     let r = rider_parts t v p c e in
-    let vs = (list_at t r.first.at).values in (
+    let vs = (list_at t r.first).values in (
       form_text t p rider_head rider_with v r.first r.opened
-          ∙ rw (list_text t r.first.at r.last r.list, skip_text t r.last.at rider_tail c r.shut, r.values) (regroup_five rider_head (decimal v) rider_with (spelled_list vs) rider_tail (drop c.at t)),
-      λ w i. list-small t r.first.at w (subst (In w) r.values i),
+          ∙ rw (list_text t r.first r.last r.list, skip_text t r.last rider_tail c r.shut, r.values) (regroup_five rider_head (decimal v) rider_with (spelled_list vs) rider_tail (drop c t)),
+      λ w i. list-small t r.first w (subst (In w) r.values i),
     )
 
 -- (retained ..), ascending
-pub retained_text : (t : List ℕ) (p : ℕ) (c : Cursor) → (retained_at t p).next ≡ Next.To c
-    → (drop p t ≡ retained_line (retained_at t p).values ++ drop c.at t) × Small (retained_at t p).values × T (ascending (retained_at t p).values)
+pub retained_text : (t : List ℕ) (p : ℕ) (c : ℕ) → (retained_at t p).next ≡ Some c
+    → (drop p t ≡ retained_line (retained_at t p).values ++ drop c t) × Small (retained_at t p).values × T (ascending (retained_at t p).values)
 unfolding retained_line
 retained_text t p c e =
     let r = retained_parts t p c e in
-    let vs = (list_at t r.first.at).values in (
+    let vs = (list_at t r.first).values in (
       skip_text t p retained_head r.first r.opened
-          ∙ rw (list_text t r.first.at r.last r.list, skip_text t r.last.at line_tail c r.shut, r.values) (regroup_three retained_head (spelled_list vs) line_tail (drop c.at t)),
-      λ w i. list-small t r.first.at w (subst (In w) r.values i),
+          ∙ rw (list_text t r.first r.last r.list, skip_text t r.last line_tail c r.shut, r.values) (regroup_three retained_head (spelled_list vs) line_tail (drop c t)),
+      λ w i. list-small t r.first w (subst (In w) r.values i),
       of_true (ascending (retained_at t p).values) (ap ascending r.values ∙ r.sorted),
     )
 
 -- the lines of m riders
-pub record RidersText (m v : ℕ) (t : List ℕ) (p : ℕ) (ls : List (List ℕ)) (c : Cursor) : Type 0 where
-  pub text : drop p t ≡ flatten (rider_lines v ls) ++ drop c.at t
+pub record RidersText (m v : ℕ) (t : List ℕ) (p : ℕ) (ls : List (List ℕ)) (c : ℕ) : Type 0 where
+  pub text : drop p t ≡ flatten (rider_lines v ls) ++ drop c t
   pub lines : length ls ≡ m
   pub small : Small (flatten ls)
 
-pub rider_lines_text : (m v : ℕ) (t : List ℕ) (p : ℕ) (c : Cursor) → (rider_lines_from m v t p).next ≡ Next.To c → RidersText m v t p (rider_lines_from m v t p).lists c
+pub rider_lines_text : (m v : ℕ) (t : List ℕ) (p : ℕ) (c : ℕ) → (rider_lines_from m v t p).next ≡ Some c → RidersText m v t p (rider_lines_from m v t p).lists c
 unfolding rider_lines_from rider_lines flatten
-rider_lines_text zero v t p c e = let z : p ≡ c.at = cc in record { text = ap (λ (q : ℕ). drop q t) z; lines = refl; small = λ w i. absurd i }
-rider_lines_text (suc m) v t p c e = go (rider_at t v p).next refl (λ d k. rider_lines_text m (v + 1) t d.at c k) e
+rider_lines_text zero v t p c e = let z : p ≡ c = cc in record { text = ap (λ (q : ℕ). drop q t) z; lines = refl; small = λ w i. absurd i }
+rider_lines_text (suc m) v t p c e = go (rider_at t v p).next refl (λ d k. rider_lines_text m (v + 1) t d c k) e
   where
-    go : (s : Next) → (rider_at t v p).next ≡ s → ((d : Cursor) → (rider_lines_from m (v + 1) t d.at).next ≡ Next.To c → RidersText m (v + 1) t d.at (rider_lines_from m (v + 1) t d.at).lists c)
-        → (on_next s (λ q. more_lists (rider_at t v p).values (rider_lines_from m (v + 1) t q)) (record { lists = (rider_at t v p).values ∷ []; next = Next.Departs })).next ≡ Next.To c
-        → RidersText (suc m) v t p (on_next s (λ q. more_lists (rider_at t v p).values (rider_lines_from m (v + 1) t q)) (record { lists = (rider_at t v p).values ∷ []; next = Next.Departs })).lists c
-    go Next.Departs k ih e = absurd (let z : ◌≡◌ {A = ℕ} 0 1 = cc in omega arith)
-    go (Next.To d) k ih e =
+    go : (s : Option ℕ) → (rider_at t v p).next ≡ s → ((d : ℕ) → (rider_lines_from m (v + 1) t d).next ≡ Some c → RidersText m (v + 1) t d (rider_lines_from m (v + 1) t d).lists c)
+        → (on_next s (λ q. more_lists (rider_at t v p).values (rider_lines_from m (v + 1) t q)) (record { lists = (rider_at t v p).values ∷ []; next = None })).next ≡ Some c
+        → RidersText (suc m) v t p (on_next s (λ q. more_lists (rider_at t v p).values (rider_lines_from m (v + 1) t q)) (record { lists = (rider_at t v p).values ∷ []; next = None })).lists c
+    go None k ih e = absurd (let z : ◌≡◌ {A = ℕ} 0 1 = cc in omega arith)
+    go (Some d) k ih e =
         let vs = (rider_at t v p).values in
-        let ls = (rider_lines_from m (v + 1) t d.at).lists in
+        let ls = (rider_lines_from m (v + 1) t d).lists in
         let first = rider_text t v p d k in
         let rest = ih d e in
         record {
-          text = first.0 ∙ rw rest.text (sym (append_assoc (rider_line v vs) (flatten (rider_lines (v + 1) ls)) (drop c.at t)));
+          text = first.0 ∙ rw rest.text (sym (append_assoc (rider_line v vs) (flatten (rider_lines (v + 1) ls)) (drop c t)));
           lines = ap suc rest.lines;
           small = λ w i. ⊎_elim (first.1 w) (rest.small w) ((in_append vs (flatten ls) w).0 i);
         }
@@ -128,28 +124,28 @@ pub record Spells (c : Content) (t : List ℕ) (s : Summary) : Type 0 where
   pub summary : s ≡ summary_of c
 
 -- what was read is the content of the text
-content_read : (t : List ℕ) (n : ℕ) (first rest : Cursor) (s : Summary) → riders_at t 0 ≡ Number.Value n first → (rider_lines_at n t first.at).next ≡ Next.To rest
-    → record { lists = (rider_lines_at n t first.at).lists; retained = (retained_at t rest.at).values; rounds = s.rounds } ≡ content_of t s
+content_read : (t : List ℕ) (n : ℕ) (first rest : ℕ) (s : Summary) → riders_at t 0 ≡ Some (n, first) → (rider_lines_at n t first).next ≡ Some rest
+    → record { lists = (rider_lines_at n t first).lists; retained = (retained_at t rest).values; rounds = s.rounds } ≡ content_of t s
 content_read t n first rest s h k =
     let lines = riders-read t n first h in
     let kept = retained-read t rest (ap (λ (r : Lists). r.next) lines ∙ k) in
     sym (
     ap (λ (r : Lists). record { lists = r.lists; retained = retained_read t; rounds = s.rounds }) lines
-    ∙ ap (λ (r : Numbers). record { lists = (rider_lines_at n t first.at).lists; retained = r.values; rounds = s.rounds }) kept
+    ∙ ap (λ (r : Numbers). record { lists = (rider_lines_at n t first).lists; retained = r.values; rounds = s.rounds }) kept
     )
 
 -- a text that is read whole is the spelling of its content, which is well-formed and has the summary answered
-pub accepted : (t : List ℕ) (s : Summary) → reading_of t ≡ Reading.Read s → Spells (content_of t s) t s
+pub accepted : (t : List ℕ) (s : Summary) → reading_of t ≡ Ok s → Spells (content_of t s) t s
 accepted t s e =
     let w = whole_parts t s e in
-    let ls = (rider_lines_at w.n t w.first.at).lists in
-    let vs = (retained_at t w.rest.at).values in
+    let ls = (rider_lines_at w.n t w.first).lists in
+    let vs = (retained_at t w.rest).values in
     let c : Content = record { lists = ls; retained = vs; rounds = s.rounds } in
     let opened = riders_text t 0 w.n w.first w.opened in
-    let lines = rider_lines_text w.n 0 t w.first.at w.rest w.lines in
-    let kept = retained_text t w.rest.at w.last w.retained in
-    let ended = rounds_text t w.last.at s.rounds w.end w.ended in
-    let over : drop w.end.at t ≡ [] = ap (λ (p : ℕ). drop p t) w.over ∙ drop-length t in
+    let lines = rider_lines_text w.n 0 t w.first w.rest w.lines in
+    let kept = retained_text t w.rest w.last w.retained in
+    let ended = rounds_text t w.last s.rounds w.end w.ended in
+    let over : drop w.end t ≡ [] = ap (λ (p : ℕ). drop p t) w.over ∙ drop-length t in
     let text : t ≡ riders_line w.n ++ (flatten (rider_lines 0 ls) ++ (retained_line vs ++ rounds_line s.rounds)) = opened.0 ∙ rw (lines.text, kept.0, ended.0, over, append-nil (rounds_line s.rounds)) in
     subst (λ (c : Content). Spells c t s) (content_read t w.n w.first w.rest s w.opened w.lines)
     (record {
@@ -161,37 +157,37 @@ accepted t s e =
 -- ---- each line that is spelled is read
 
 -- (riders n)
-pub riders_spelled : (t : List ℕ) (p n : ℕ) (rest : List ℕ) → drop p t ≡ riders_line n ++ rest → n ≤ 65535 → (c : Cursor) × (riders_at t p ≡ Number.Value n c) × (drop c.at t ≡ rest)
+pub riders_spelled : (t : List ℕ) (p n : ℕ) (rest : List ℕ) → drop p t ≡ riders_line n ++ rest → n ≤ 65535 → (c : ℕ) × (riders_at t p ≡ Some (n, c)) × (drop c t ≡ rest)
 unfolding riders_line
 riders_spelled t p n rest e h = let head = bytes "(riders " in form_spelled t p head n 41 (bytes "\n") rest (e ∙ sym (regroup_three head (decimal n) line_tail rest)) h (omega arith)
 
 -- (rounds r)
-pub rounds_spelled : (t : List ℕ) (p r : ℕ) (rest : List ℕ) → drop p t ≡ rounds_line r ++ rest → r ≤ 65535 → (c : Cursor) × (rounds_at t p ≡ Number.Value r c) × (drop c.at t ≡ rest)
+pub rounds_spelled : (t : List ℕ) (p r : ℕ) (rest : List ℕ) → drop p t ≡ rounds_line r ++ rest → r ≤ 65535 → (c : ℕ) × (rounds_at t p ≡ Some (r, c)) × (drop c t ≡ rest)
 unfolding rounds_line
 rounds_spelled t p r rest e h = let head = bytes "(rounds " in form_spelled t p head r 41 (bytes "\n") rest (e ∙ sym (regroup_three head (decimal r) line_tail rest)) h (omega arith)
 
 -- (rider v (with ..))
 pub rider_spelled :
     (t : List ℕ) (v p : ℕ) (l rest : List ℕ) → drop p t ≡ rider_line v l ++ rest → v ≤ 65535 → Small l
-    → (c : Cursor) × (rider_at t v p ≡ record { values = l; next = Next.To c }) × (drop c.at t ≡ rest)
+    → (c : ℕ) × (rider_at t v p ≡ record { values = l; next = Some c }) × (drop c t ≡ rest)
 unfolding rider_at rider_line
 rider_spelled t v p l rest e h k =
     let f = form_spelled t p rider_head v 32 (bytes "(with") (spelled_list l ++ (rider_tail ++ rest)) (e ∙ sym (regroup_five rider_head (decimal v) rider_with (spelled_list l) rider_tail rest)) h (omega arith) in
-    let i = list_spelled t l f.0.at (bytes ")\n" ++ rest) f.2 k in
-    let s = skip_spelled t i.0.at rider_tail rest i.2 in
-    (cursor (i.0.at + 3), rw (f.1, eq-eqb v v refl, i.1, s), past t i.0.at rider_tail rest i.2)
+    let i = list_spelled t l f.0 (bytes ")\n" ++ rest) f.2 k in
+    let s = skip_spelled t i.0 rider_tail rest i.2 in
+    ((i.0 + 3), rw (f.1, eq-eqb v v refl, i.1, s), past t i.0 rider_tail rest i.2)
 
 -- (retained ..), ascending
 pub retained_spelled :
     (t : List ℕ) (p : ℕ) (l rest : List ℕ) → drop p t ≡ retained_line l ++ rest → Small l → T (ascending l)
-    → (c : Cursor) × (retained_at t p ≡ record { values = l; next = Next.To c }) × (drop c.at t ≡ rest)
+    → (c : ℕ) × (retained_at t p ≡ record { values = l; next = Some c }) × (drop c t ≡ rest)
 unfolding retained_at retained_line
 retained_spelled t p l rest e h k =
     let q = e ∙ sym (regroup_three retained_head (spelled_list l) line_tail rest) in
     let s = skip_spelled t p retained_head (spelled_list l ++ (line_tail ++ rest)) q in
     let i = list_spelled t l (p + length retained_head) (bytes "\n" ++ rest) (past t p retained_head (spelled_list l ++ (line_tail ++ rest)) q) h in
-    let z = skip_spelled t i.0.at line_tail rest i.2 in
-    (cursor (i.0.at + 2), rw (s, i.1, true_of (ascending l) k, z), past t i.0.at line_tail rest i.2)
+    let z = skip_spelled t i.0 line_tail rest i.2 in
+    ((i.0 + 2), rw (s, i.1, true_of (ascending l) k, z), past t i.0 line_tail rest i.2)
 
 -- some lists before others
 abbrev pub before : List (List ℕ) → Lists → Lists
@@ -200,12 +196,12 @@ before ls r = record { lists = ls ++ r.lists; next = r.next }
 -- the lines of some riders are read, and then those of m more
 pub rider_lines_spelled :
     (t : List ℕ) (ls : List (List ℕ)) (m v p : ℕ) (rest : List ℕ) → drop p t ≡ flatten (rider_lines v ls) ++ rest → v + length ls ≤ 65536 → Small (flatten ls)
-    → (c : Cursor) × (rider_lines_from (length ls + m) v t p ≡ before ls (rider_lines_from m (v + length ls) t c.at)) × (drop c.at t ≡ rest)
+    → (c : ℕ) × (rider_lines_from (length ls + m) v t p ≡ before ls (rider_lines_from m (v + length ls) t c)) × (drop c t ≡ rest)
 unfolding rider_lines_from rider_lines flatten
-rider_lines_spelled t [] m v p rest e h k = (cursor p, rw (zero-add m, add-zero v), e)
+rider_lines_spelled t [] m v p rest e h k = (p, rw (zero-add m, add-zero v), e)
 rider_lines_spelled t (l ∷ ls) m v p rest e h k =
     let i = rider_spelled t v p l (flatten (rider_lines (v + 1) ls) ++ rest) (e ∙ append_assoc (rider_line v l) (flatten (rider_lines (v + 1) ls)) rest) (omega arith) (λ w q. k w ((in_append l (flatten ls) w).1 (inl q))) in
-    let j = rider_lines_spelled t ls m (v + 1) i.0.at rest i.2 (omega arith) (λ w q. k w ((in_append l (flatten ls) w).1 (inr q))) in
+    let j = rider_lines_spelled t ls m (v + 1) i.0 rest i.2 (omega arith) (λ w q. k w ((in_append l (flatten ls) w).1 (inr q))) in
     let last : v + 1 + length ls ≡ v + suc (length ls) = omega arith in
     (j.0, rw (suc-add (length ls) m, i.1, ← last) (ap (more_lists l) j.1), j.2)
 
@@ -218,28 +214,28 @@ module _ (c : Content) (w : WellFormed c) (t : List ℕ) (e : t ≡ spell c) whe
   abbrev lines_on : List ℕ
   lines_on = flatten (rider_lines 0 c.lists) ++ (retained_line c.retained ++ rounds_line c.rounds)
 
-  read_first : (first : Cursor) × (riders_at t 0 ≡ Number.Value n first) × (drop first.at t ≡ lines_on)
+  read_first : (first : ℕ) × (riders_at t 0 ≡ Some (n, first)) × (drop first t ≡ lines_on)
   read_first = riders_spelled t 0 n lines_on (e ∙ spell_parts c) w.riders
 
-  read-lines : (rest : Cursor) × (rider_lines_at n t read_first.0.at ≡ record { lists = c.lists; next = Next.To rest }) × (drop rest.at t ≡ retained_line c.retained ++ rounds_line c.rounds)
+  read-lines : (rest : ℕ) × (rider_lines_at n t read_first.0 ≡ record { lists = c.lists; next = Some rest }) × (drop rest t ≡ retained_line c.retained ++ rounds_line c.rounds)
   unfolding rider_lines_from
   read-lines =
-      let i = rider_lines_spelled t c.lists 0 0 read_first.0.at (retained_line c.retained ++ rounds_line c.rounds) read_first.2 (omega (arith, w.riders)) w.links in
-      (i.0, ap (λ (m : ℕ). rider_lines_from m 0 t read_first.0.at) (sym (add-zero n)) ∙ i.1 ∙ ap (λ (ls : List (List ℕ)). record { lists = ls; next = Next.To i.0 }) (append-nil c.lists), i.2)
+      let i = rider_lines_spelled t c.lists 0 0 read_first.0 (retained_line c.retained ++ rounds_line c.rounds) read_first.2 (omega (arith, w.riders)) w.links in
+      (i.0, ap (λ (m : ℕ). rider_lines_from m 0 t read_first.0) (sym (add-zero n)) ∙ i.1 ∙ ap (λ (ls : List (List ℕ)). record { lists = ls; next = Some i.0 }) (append-nil c.lists), i.2)
 
-  read-retained : (last : Cursor) × (retained_at t read-lines.0.at ≡ record { values = c.retained; next = Next.To last }) × (drop last.at t ≡ rounds_line c.rounds)
-  read-retained = retained_spelled t read-lines.0.at c.retained (rounds_line c.rounds) read-lines.2 w.retained w.ascending
+  read-retained : (last : ℕ) × (retained_at t read-lines.0 ≡ record { values = c.retained; next = Some last }) × (drop last t ≡ rounds_line c.rounds)
+  read-retained = retained_spelled t read-lines.0 c.retained (rounds_line c.rounds) read-lines.2 w.retained w.ascending
 
-  read-rounds : (end : Cursor) × (rounds_at t read-retained.0.at ≡ Number.Value c.rounds end) × (end.at ≡ length t)
+  read-rounds : (end : ℕ) × (rounds_at t read-retained.0 ≡ Some (c.rounds, end)) × (end ≡ length t)
   read-rounds =
-      let i = rounds_spelled t read-retained.0.at c.rounds [] (read-retained.2 ∙ sym (append-nil (rounds_line c.rounds))) w.rounds in
-      let inside = form_in t read-retained.0.at 40 (bytes "rounds ") 41 (bytes "\n") c.rounds i.0 i.1 in
-      let over = sym (length-drop i.0.at t) ∙ ap length i.2 in
+      let i = rounds_spelled t read-retained.0 c.rounds [] (read-retained.2 ∙ sym (append-nil (rounds_line c.rounds))) w.rounds in
+      let inside = form_in t read-retained.0 40 (bytes "rounds ") 41 (bytes "\n") c.rounds i.0 i.1 in
+      let over = sym (length-drop i.0 t) ∙ ap length i.2 in
       (i.0, i.1, omega (arith, inside.1, over))
 
-  read_whole : reading_of t ≡ Reading.Read (summary_of c)
+  read_whole : reading_of t ≡ Ok (summary_of c)
   unfolding reading_of rest_of
-  read_whole = rw (read_first.1, read-lines.1, read-retained.1, read-rounds.1, eq-eqb read-rounds.0.at (length t) read-rounds.2)
+  read_whole = rw (read_first.1, read-lines.1, read-retained.1, read-rounds.1, eq-eqb read-rounds.0 (length t) read-rounds.2)
 
   read_content : content_of t (summary_of c) ≡ c
   read_content =
@@ -247,15 +243,15 @@ module _ (c : Content) (w : WellFormed c) (t : List ℕ) (e : t ≡ spell c) whe
       ∙ rw (read-lines.1, read-retained.1)
 
 -- the spelling of a well-formed content is read whole: the answer is its summary, and what is read is that content
-pub read_back : (c : Content) → WellFormed c → (reading_of (spell c) ≡ Reading.Read (summary_of c)) × (content_of (spell c) (summary_of c) ≡ c)
+pub read_back : (c : Content) → WellFormed c → (reading_of (spell c) ≡ Ok (summary_of c)) × (content_of (spell c) (summary_of c) ≡ c)
 read_back c w = (read_whole c w (spell c) refl, read_content c w (spell c) refl)
 
 -- exactly the spellings of well-formed contents are read whole
-pub accepted_iff : (t : List ℕ) (s : Summary) → (reading_of t ≡ Reading.Read s) ↔ ((c : Content) × Spells c t s)
+pub accepted_iff : (t : List ℕ) (s : Summary) → (reading_of t ≡ Ok s) ↔ ((c : Content) × Spells c t s)
 accepted_iff t s = (λ e. (content_of t s, accepted t s e), λ b. rw (b.1.text, b.1.summary) (read_back b.0 b.1.well_formed).0)
 
 -- all numbers of a text that is read whole are at most 65,535
-pub numbers-small : (t : List ℕ) (s : Summary) → reading_of t ≡ Reading.Read s → (s.riders ≤ 65535) × Small (links_read t) × Small (retained_read t) × (s.rounds ≤ 65535)
+pub numbers-small : (t : List ℕ) (s : Summary) → reading_of t ≡ Ok s → (s.riders ≤ 65535) × Small (links_read t) × Small (retained_read t) × (s.rounds ≤ 65535)
 numbers-small t s e =
     let a = accepted t s e in
     let f = a.well_formed in

@@ -10,6 +10,7 @@ use lib.ListN.{length, get_or, take, drop, set, replicate, length-append, length
 use lib.Seq.{sets, take_all, take-suc, drop-cons, take-append_seam, drop-append_seam}
 use lib.Dec.{T, leb, eqb, leb→le}
 use borrow.Author.Tests.{leb-true, leb-false}
+use Rattle.std.specs.Prelude.{None, Some, Ok}
 use Rattle.finite.specs.Count.{bit, tabulate, In}
 use Rattle.finite.specs.Search.{any, member, ascending}
 use Rattle.finite.proofs.Count.{flatten_append, tabulate-take, zeros-at, set_reads}
@@ -18,12 +19,9 @@ use Rattle.finite.proofs.Stores.{sets-front}
 use Rattle.finite.proofs.Tests.{and_l, and_r, eqb_sym}
 use Rattle.lines.specs.List.{first_beyond, anchor}
 use Rattle.text.specs.Text.{Lists, starts_from, reading_of, rider_lines_read, starts_read, links_read}
-use Rattle.reader.specs.declared.number.Cursor.{Cursor}
-use Rattle.reader.specs.declared.form.Next.{Next}
 use Rattle.text.specs.declared.read.Summary.{Summary}
-use Rattle.text.specs.declared.read.Reading.{Reading}
 use Rattle.text.proofs.Texts.{length-starts, riders-read, whole_parts}
-use Rattle.text.proofs.Accepted.{Small, accepted}
+use Rattle.text.proofs.Accepted.{accepted}
 
 -- ---- the starts of some lists, the last being the number of links
 
@@ -77,10 +75,10 @@ laid ls =
     }
 
 -- all the riders' lines were read
-lines-read : (t : List ℕ) (s : Summary) → reading_of t ≡ Reading.Read s → (rest : Cursor) × ((rider_lines_read t).next ≡ Next.To rest)
+lines-read : (t : List ℕ) (s : Summary) → reading_of t ≡ Ok s → (rest : ℕ) × ((rider_lines_read t).next ≡ Some rest)
 lines-read t s e = let w = whole_parts t s e in (w.rest, ap (λ (r : Lists). r.next) (riders-read t w.n w.first w.opened) ∙ w.lines)
 
-module _ (t : List ℕ) (s : Summary) (e : reading_of t ≡ Reading.Read s) where
+module _ (t : List ℕ) (s : Summary) (e : reading_of t ≡ Ok s) where
   -- the numbers answered are those of the lists
   pub riders-count : s.riders ≡ length (rider_lines_read t).lists
   riders-count = ap (λ (x : Summary). x.riders) (accepted t s e).summary
@@ -137,23 +135,23 @@ anchored-lent room n vs h =
 
 -- ---- the first retained number of n or more
 
--- where it is answered as 65,536, every number is below n
-pub beyond-none : (n : ℕ) (vs : List ℕ) → Small vs → 65536 ≤ first_beyond n vs → (w : ℕ) → In w vs → w < n
-beyond-none n [] small h w i = absurd i
-beyond-none n (v ∷ vs) small h w i = go (leb n v) refl h i (beyond-none n vs (λ x m. small x (inr m)))
+-- where there is none, every number is below n
+pub beyond-none : (n : ℕ) (vs : List ℕ) → first_beyond n vs ≡ None → (w : ℕ) → In w vs → w < n
+beyond-none n [] h w i = absurd i
+beyond-none n (v ∷ vs) h w i = go (leb n v) refl h i (beyond-none n vs)
   where
-    go : (b : Bool) → leb n v ≡ b → 65536 ≤ cond b v (first_beyond n vs) → In w (v ∷ vs) → (65536 ≤ first_beyond n vs → (x : ℕ) → In x vs → x < n) → w < n
-    go true e h i ih = absurd (omega (arith, small v (inl refl)))
+    go : (b : Bool) → leb n v ≡ b → cond b (Some v) (first_beyond n vs) ≡ None → In w (v ∷ vs) → (first_beyond n vs ≡ None → (x : ℕ) → In x vs → x < n) → w < n
+    go true e h i ih = absurd (let z : ◌≡◌ {A = ℕ} 0 1 = cc in omega arith)
     go false e h (inl q) ih = omega (arith, leb-false n v e)
     go false e h (inr m) ih = ih h w m
 
--- where it is answered as less, it is a number of n or more in the list
-pub beyond-some : (n : ℕ) (vs : List ℕ) → first_beyond n vs < 65536 → In (first_beyond n vs) vs × (n ≤ first_beyond n vs)
-beyond-some n [] h = absurd (omega arith)
-beyond-some n (v ∷ vs) h = go (leb n v) refl h (beyond-some n vs)
+-- where there is one, it is a number of n or more in the list
+pub beyond-some : (n : ℕ) (vs : List ℕ) (b : ℕ) → first_beyond n vs ≡ Some b → In b vs × (n ≤ b)
+beyond-some n [] b h = absurd (let z : ◌≡◌ {A = ℕ} 0 1 = cc in omega arith)
+beyond-some n (v ∷ vs) b h = go (leb n v) refl h (beyond-some n vs b)
   where
-    go : (b : Bool) → leb n v ≡ b → cond b v (first_beyond n vs) < 65536 → (first_beyond n vs < 65536 → In (first_beyond n vs) vs × (n ≤ first_beyond n vs)) → In (cond b v (first_beyond n vs)) (v ∷ vs) × (n ≤ cond b v (first_beyond n vs))
-    go true e h ih = (inl refl, leb-true n v e)
+    go : (c : Bool) → leb n v ≡ c → cond c (Some v) (first_beyond n vs) ≡ Some b → (first_beyond n vs ≡ Some b → In b vs × (n ≤ b)) → In b (v ∷ vs) × (n ≤ b)
+    go true e h ih = let q : b ≡ v = cc in (inl q, omega (arith, leb-true n v e))
     go false e h ih = let r = ih h in (inr r.0, r.1)
 
 scans-le : (least : ℕ) (vs : List ℕ) → T (scans least vs) → (w : ℕ) → In w vs → least ≤ w
@@ -161,16 +159,16 @@ scans-le least [] s w i = absurd i
 scans-le least (v ∷ vs) s w (inl e) = omega (arith, leb→le least v (and_l (leb least v) _ s))
 scans-le least (v ∷ vs) s w (inr m) = omega (arith, leb→le least v (and_l (leb least v) _ s), scans-le (v + 1) vs (and_r (leb least v) _ s) w m)
 
-scans-least : (n least : ℕ) (vs : List ℕ) → T (scans least vs) → (w : ℕ) → In w vs → n ≤ w → first_beyond n vs ≤ w
+scans-least : (n least : ℕ) (vs : List ℕ) → T (scans least vs) → (w : ℕ) → In w vs → n ≤ w → (b : ℕ) × (first_beyond n vs ≡ Some b) × (b ≤ w)
 scans-least n least [] s w i h = absurd i
 scans-least n least (v ∷ vs) s w i h = go (leb n v) refl i (λ m. scans-least n (v + 1) vs (and_r (leb least v) _ s) w m h)
   where
-    go : (b : Bool) → leb n v ≡ b → In w (v ∷ vs) → (In w vs → first_beyond n vs ≤ w) → cond b v (first_beyond n vs) ≤ w
-    go true e (inl q) ih = omega arith
-    go true e (inr m) ih = omega (arith, scans-le (v + 1) vs (and_r (leb least v) _ s) w m)
+    go : (c : Bool) → leb n v ≡ c → In w (v ∷ vs) → (In w vs → (b : ℕ) × (first_beyond n vs ≡ Some b) × (b ≤ w)) → (b : ℕ) × (cond c (Some v) (first_beyond n vs) ≡ Some b) × (b ≤ w)
+    go true e (inl q) ih = (v, refl, omega arith)
+    go true e (inr m) ih = (v, refl, omega (arith, scans-le (v + 1) vs (and_r (leb least v) _ s) w m))
     go false e (inl q) ih = absurd (omega (arith, leb-false n v e))
     go false e (inr m) ih = ih m
 
 -- and the lowest such, as the list ascends
-pub beyond-least : (n : ℕ) (vs : List ℕ) → T (ascending vs) → (w : ℕ) → In w vs → n ≤ w → first_beyond n vs ≤ w
+pub beyond-least : (n : ℕ) (vs : List ℕ) → T (ascending vs) → (w : ℕ) → In w vs → n ≤ w → (b : ℕ) × (first_beyond n vs ≡ Some b) × (b ≤ w)
 beyond-least n vs a = scans-least n 0 vs (subst T (ascending_scan vs) a)

@@ -8,6 +8,7 @@ use native.Mathlib.Omega.{arith}
 use lib.ListN.{length, take}
 use lib.Seq.{take-length}
 use lib.Dec.{T, ltb, eqb, T_not, not_T, eqb→eq}
+use Rattle.std.specs.Prelude.{Ok}
 use Rattle.finite.specs.Bytes.{bytes, digit, decimal_from, decimal}
 use Rattle.finite.specs.Count.{count, In}
 use Rattle.finite.specs.Search.{any, member}
@@ -16,7 +17,6 @@ use Rattle.finite.proofs.Search.{member_i}
 use Rattle.text.specs.Text.{reading_of}
 use Rattle.text.specs.Spelling.{spelled_list, riders_line, rider_line, retained_line, rounds_line, rider_lines, Content, lines_of, spell, content_of}
 use Rattle.text.specs.declared.read.Summary.{Summary}
-use Rattle.text.specs.declared.read.Reading.{Reading}
 use Rattle.text.proofs.Accepted.{regroup_three, regroup_five, accepted}
 use Rattle.text.proofs.Departures.{length-lines}
 
@@ -118,7 +118,7 @@ pub first-lines : (c : Content) (j : ℕ) → j ≤ length (lines_of c) → coun
 first-lines c j h = lines-count (lines_of c) (lines-closed c) j h
 
 -- a text that is read whole has a line for each rider and three more
-pub accepted-lines : (t : List ℕ) (s : Summary) → reading_of t ≡ Reading.Read s → count (eqb 10) t ≡ s.riders + 3
+pub accepted-lines : (t : List ℕ) (s : Summary) → reading_of t ≡ Ok s → count (eqb 10) t ≡ s.riders + 3
 unfolding spell
 accepted-lines t s e =
     let a = accepted t s e in

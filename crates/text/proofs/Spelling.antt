@@ -11,16 +11,14 @@ use lib.ListN.{length, get_or, drop}
 use lib.Seq.{drop-cons, drop-drop, drop-append_seam, get_or-drop, append_snoc}
 use lib.Dec.{ltb, leb, eqb}
 use borrow.Author.Tests.{ltb-true, ltb-false, eqb-true, eqb-false, not-true, lt-ltb, le-ltb, le-leb, eq-eqb, ne_eqb}
+use Rattle.std.specs.Prelude.{Some}
 use Rattle.finite.specs.Bytes.{decimal}
 use Rattle.finite.specs.Count.{In}
 use Rattle.finite.proofs.Bytes.{decimal-one, decimal-more}
-use Rattle.reader.specs.Number.{cursor, digit_of, digits, value, unpadded, number_of, number_at}
+use Rattle.reader.specs.Number.{digit_of, digits, value, unpadded, number_of, number_at}
 use Rattle.reader.specs.Form.{begins, skip_at, form_at}
 use Rattle.lines.specs.List.{more, list_at}
 use Rattle.text.specs.Spelling.{spelled_list}
-use Rattle.reader.specs.declared.number.Cursor.{Cursor}
-use Rattle.reader.specs.declared.number.Number.{Number}
-use Rattle.reader.specs.declared.form.Next.{Next}
 use Rattle.reader.proofs.Numbers.{number_digits, number_small}
 use Rattle.reader.proofs.Forms.{skip_found, form_parts}
 use Rattle.lines.proofs.Lists.{space_in, list-end, list-more, list_ind}
@@ -82,7 +80,7 @@ digits_text (b ∷ bs) = go (ltb (digit_of b) 10) refl (digits_text bs)
     go false e ih = (tt, refl)
 
 -- a number
-pub number_text : (t : List ℕ) (p v : ℕ) (c : Cursor) → number_at t p ≡ Number.Value v c → drop p t ≡ decimal v ++ drop c.at t
+pub number_text : (t : List ℕ) (p v : ℕ) (c : ℕ) → number_at t p ≡ Some (v, c) → drop p t ≡ decimal v ++ drop c t
 number_text t p v c e =
     let ds = digits (drop p t) in
     let read = number_digits t p v c e in
@@ -100,28 +98,28 @@ begins_text (x ∷ xs) (y ∷ ys) e = go (eqb y x) refl (λ k. begins_text xs ys
     go false k ih e = absurd (let z : ◌≡◌ {A = ℕ} 0 1 = cc in omega arith)
 
 -- constant bytes
-pub skip_text : (t : List ℕ) (p : ℕ) (bs : List ℕ) (c : Cursor) → skip_at t p bs ≡ Next.To c → drop p t ≡ bs ++ drop c.at t
+pub skip_text : (t : List ℕ) (p : ℕ) (bs : List ℕ) (c : ℕ) → skip_at t p bs ≡ Some c → drop p t ≡ bs ++ drop c t
 skip_text t p bs c e =
     let found = skip_found t p bs c e in
     begins_text bs (drop p t) found.0 ∙ rw (drop-drop (length bs) p t, found.1)
 
 -- a number between constant bytes
-pub form_text : (t : List ℕ) (p : ℕ) (head tail : List ℕ) (v : ℕ) (c : Cursor) → form_at t p head tail ≡ Number.Value v c → drop p t ≡ head ++ (decimal v ++ (tail ++ drop c.at t))
+pub form_text : (t : List ℕ) (p : ℕ) (head tail : List ℕ) (v : ℕ) (c : ℕ) → form_at t p head tail ≡ Some (v, c) → drop p t ≡ head ++ (decimal v ++ (tail ++ drop c t))
 form_text t p head tail v c e =
     let f = form_parts t p head tail v c e in
-    skip_text t p head f.first f.opened ∙ rw (number_text t f.first.at v f.last f.number, skip_text t f.last.at tail c f.closed)
+    skip_text t p head f.first f.opened ∙ rw (number_text t f.first v f.last f.number, skip_text t f.last tail c f.closed)
 
 -- a list
-pub list_text : (t : List ℕ) (p : ℕ) (c : Cursor) → (list_at t p).next ≡ Next.To c → drop p t ≡ spelled_list (list_at t p).values ++ drop c.at t
+pub list_text : (t : List ℕ) (p : ℕ) (c : ℕ) → (list_at t p).next ≡ Some c → drop p t ≡ spelled_list (list_at t p).values ++ drop c t
 unfolding spelled_list
 list_text t p c =
-    list_ind t (λ p r. r.next ≡ Next.To c → drop p t ≡ spelled_list r.values ++ drop c.at t)
-    (λ p e. let z : p ≡ c.at = cc in ap (λ (q : ℕ). drop q t) z)
+    list_ind t (λ p r. r.next ≡ Some c → drop p t ≡ spelled_list r.values ++ drop c t)
+    (λ p e. let z : p ≡ c = cc in ap (λ (q : ℕ). drop q t) z)
     (λ p e. absurd (let z : ◌≡◌ {A = ℕ} 0 1 = cc in omega arith))
     (λ p v d r s n ih e.
     drop-cons t p 0 (space_in t p s)
     ∙ ap (λ (b : ℕ). b ∷ drop (suc p) t) s
-    ∙ ap (λ (l : List ℕ). 32 ∷ l) (ap (λ (q : ℕ). drop q t) (sym (add-one p)) ∙ number_text t (p + 1) v d n ∙ rw (ih e) (sym (append_assoc (decimal v) (spelled_list r.values) (drop c.at t)))))
+    ∙ ap (λ (l : List ℕ). 32 ∷ l) (ap (λ (q : ℕ). drop q t) (sym (add-one p)) ∙ number_text t (p + 1) v d n ∙ rw (ih e) (sym (append_assoc (decimal v) (spelled_list r.values) (drop c t)))))
     p
 
 -- every number of a list is at most 65,535
@@ -144,7 +142,7 @@ unfolding begins
 begins-append [] rest = refl
 begins-append (x ∷ xs) rest = rw (eq-eqb x x refl) (begins-append xs rest)
 
-pub skip_spelled : (t : List ℕ) (p : ℕ) (bs rest : List ℕ) → drop p t ≡ bs ++ rest → skip_at t p bs ≡ Next.To (cursor (p + length bs))
+pub skip_spelled : (t : List ℕ) (p : ℕ) (bs rest : List ℕ) → drop p t ≡ bs ++ rest → skip_at t p bs ≡ Some (p + length bs)
 skip_spelled t p bs rest e = rw (e, begins-append bs rest)
 
 -- digits with a first one above 0 that make v
@@ -198,7 +196,7 @@ length-shown [] = refl
 length-shown (d ∷ ds) = ap suc (length-shown ds)
 
 -- a number with a byte behind it that is no digit
-pub number_spelled : (t : List ℕ) (p v b : ℕ) (rest : List ℕ) → drop p t ≡ decimal v ++ (b ∷ rest) → v ≤ 65535 → 10 ≤ digit_of b → number_at t p ≡ Number.Value v (cursor (p + length (decimal v)))
+pub number_spelled : (t : List ℕ) (p v b : ℕ) (rest : List ℕ) → drop p t ≡ decimal v ++ (b ∷ rest) → v ≤ 65535 → 10 ≤ digit_of b → number_at t p ≡ Some (v, (p + length (decimal v)))
 unfolding number_of
 number_spelled t p v b rest e h k =
     let d = digits_for v v (omega arith) in
@@ -209,14 +207,14 @@ number_spelled t p v b rest e h k =
 -- a number between constant bytes
 pub form_spelled :
     (t : List ℕ) (p : ℕ) (head : List ℕ) (v b : ℕ) (bs rest : List ℕ) → drop p t ≡ head ++ (decimal v ++ ((b ∷ bs) ++ rest)) → v ≤ 65535 → 10 ≤ digit_of b
-    → (c : Cursor) × (form_at t p head (b ∷ bs) ≡ Number.Value v c) × (drop c.at t ≡ rest)
+    → (c : ℕ) × (form_at t p head (b ∷ bs) ≡ Some (v, c)) × (drop c t ≡ rest)
 unfolding form_at
 form_spelled t p head v b bs rest e h k =
     let first = p + length head in
     let last = first + length (decimal v) in
     let e₁ = past t p head (decimal v ++ ((b ∷ bs) ++ rest)) e in
     let e₂ = past t first (decimal v) ((b ∷ bs) ++ rest) e₁ in (
-      cursor (last + length (b ∷ bs)),
+      (last + length (b ∷ bs)),
       rw (skip_spelled t p head (decimal v ++ ((b ∷ bs) ++ rest)) e, number_spelled t first v b (bs ++ rest) e₁ h k, skip_spelled t last (b ∷ bs) rest e₂),
       past t last (b ∷ bs) rest e₂,
     )
@@ -227,17 +225,17 @@ byte_spelled t p b rest e = ap (λ (k : ℕ). get_or t k 0) (sym (add-zero p)) �
 -- a list with `)` behind it
 pub list_spelled :
     (t : List ℕ) (vs : List ℕ) (p : ℕ) (rest : List ℕ) → drop p t ≡ spelled_list vs ++ (41 ∷ rest) → ((w : ℕ) → In w vs → w ≤ 65535)
-    → (c : Cursor) × (list_at t p ≡ record { values = vs; next = Next.To c }) × (drop c.at t ≡ 41 ∷ rest)
+    → (c : ℕ) × (list_at t p ≡ record { values = vs; next = Some c }) × (drop c t ≡ 41 ∷ rest)
 unfolding spelled_list
-list_spelled t [] p rest e h = (cursor p, list-end t p (λ k. let z = byte_spelled t p 41 rest e in omega arith), e)
+list_spelled t [] p rest e h = (p, list-end t p (λ k. let z = byte_spelled t p 41 rest e in omega arith), e)
 list_spelled t (v ∷ vs) p rest e h =
     let space = byte_spelled t p 32 ((decimal v ++ spelled_list vs) ++ (41 ∷ rest)) e in
     let e₁ : drop (p + 1) t ≡ decimal v ++ (spelled_list vs ++ (41 ∷ rest)) = past t p (32 ∷ []) ((decimal v ++ spelled_list vs) ++ (41 ∷ rest)) e ∙ append_assoc (decimal v) (spelled_list vs) (41 ∷ rest) in
     let next : ℕ = p + 1 + length (decimal v) in
-    let number : number_at t (p + 1) ≡ Number.Value v (cursor (p + 1 + length (decimal v))) = go vs e₁ in
+    let number : number_at t (p + 1) ≡ Some (v, (p + 1 + length (decimal v))) = go vs e₁ in
     let i = list_spelled t vs next rest (past t (p + 1) (decimal v) (spelled_list vs ++ (41 ∷ rest)) e₁) (λ w m. h w (inr m)) in
-    (i.0, list-more t p v (cursor next) space number ∙ ap (more v) i.1, i.2)
+    (i.0, list-more t p v next space number ∙ ap (more v) i.1, i.2)
   where
-    go : (vs : List ℕ) → drop (p + 1) t ≡ decimal v ++ (spelled_list vs ++ (41 ∷ rest)) → number_at t (p + 1) ≡ Number.Value v (cursor (p + 1 + length (decimal v)))
+    go : (vs : List ℕ) → drop (p + 1) t ≡ decimal v ++ (spelled_list vs ++ (41 ∷ rest)) → number_at t (p + 1) ≡ Some (v, (p + 1 + length (decimal v)))
     go [] e = number_spelled t (p + 1) v 41 rest e (h v (inl refl)) (omega arith)
     go (z ∷ zs) e = number_spelled t (p + 1) v 32 ((decimal z ++ spelled_list zs) ++ (41 ∷ rest)) e (h v (inl refl)) (omega arith)

@@ -1,5 +1,5 @@
 -- The definitions compute: document 01's listing, texts that are refused later, and a text for each way to depart. Assumes nothing.
-use Rattle.std.specs.Prelude.{◌≡◌, refl, ℕ}
+use Rattle.std.specs.Prelude.{◌≡◌, refl, ℕ, Some, None, Result, Ok, Err}
 use mathlib.Core.List.{List, [], ◌∷◌, flatten}
 use Prim.Native.String.{String}
 use Rattle.finite.specs.Bytes.{bytes, decimal_from, decimal}
@@ -10,12 +10,12 @@ use Rattle.reader.specs.Form.{begins, form_at}
 use Rattle.lines.specs.List.{list_from, list_at}
 use Rattle.lines.specs.Line.{rider_at, retained_at}
 use Rattle.text.specs.Text.{rider_lines_from, starts_from, rest_of, reading_of, rider_lines_read, retained_line_read, starts_read, links_read, retained_read}
+use Rattle.text.specs.declared.read.Summary.{Summary}
 use Rattle.text.specs.Spelling.{spelled_list, riders_line, rider_line, retained_line, rounds_line, rider_lines, Content, lines_of, spell}
-use Rattle.text.specs.declared.read.Reading.{Reading}
 
 -- what a text says, with the arrays that it fills
 record Said : Type 0 where
-  reading : Reading
+  reading : Result Summary ℕ
   starts : List ℕ
   links : List ℕ
   retained : List ℕ
@@ -23,7 +23,7 @@ record Said : Type 0 where
 abbrev said : List ℕ → Said
 said t = record { reading = reading_of t; starts = starts_read t; links = links_read t; retained = retained_read t }
 
-abbrev read : String → Reading
+abbrev read : String → Result Summary ℕ
 read t = reading_of (bytes t)
 
 -- document 01's listing, and what it says
@@ -39,11 +39,11 @@ chain = record { lists = (1 ∷ []) ∷ (0 ∷ 2 ∷ []) ∷ (1 ∷ 3 ∷ []) �
 answers :
     (spell chain ≡ bytes listing)
     × (said (bytes listing)
-    ≡ record { reading = Reading.Read (record { riders = 4; links = 6; beyond = 65536; rounds = 2 }); starts = 0 ∷ 1 ∷ 3 ∷ 5 ∷ 6 ∷ []; links = 1 ∷ 0 ∷ 2 ∷ 1 ∷ 3 ∷ 2 ∷ []; retained = [] })
+    ≡ record { reading = Ok (record { riders = 4; links = 6; beyond = None; rounds = 2 }); starts = 0 ∷ 1 ∷ 3 ∷ 5 ∷ 6 ∷ []; links = 1 ∷ 0 ∷ 2 ∷ 1 ∷ 3 ∷ 2 ∷ []; retained = [] })
     × (said (bytes "(riders 1)\n(rider 0 (with 65535))\n(retained 0 7 65535)\n(rounds 65535)\n")
-    ≡ record { reading = Reading.Read (record { riders = 1; links = 1; beyond = 7; rounds = 65535 }); starts = 0 ∷ 1 ∷ []; links = 65535 ∷ []; retained = 0 ∷ 7 ∷ 65535 ∷ [] })
-    × (said (bytes "(riders 2)\n(rider 0 (with 1))\n(rider 1 (with 0 01))\n") ≡ record { reading = Reading.Departs 3; starts = 0 ∷ 1 ∷ []; links = 1 ∷ 0 ∷ []; retained = [] })
-    × ◌≡◌ {A = List Reading}
+    ≡ record { reading = Ok (record { riders = 1; links = 1; beyond = Some 7; rounds = 65535 }); starts = 0 ∷ 1 ∷ []; links = 65535 ∷ []; retained = 0 ∷ 7 ∷ 65535 ∷ [] })
+    × (said (bytes "(riders 2)\n(rider 0 (with 1))\n(rider 1 (with 0 01))\n") ≡ record { reading = Err 3; starts = 0 ∷ 1 ∷ []; links = 1 ∷ 0 ∷ []; retained = [] })
+    × ◌≡◌ {A = List (Result Summary ℕ)}
     (read "(riders 0)\n(retained)\n(rounds 0)\n"
     ∷ read ""
     ∷ read "(riders 0)"
@@ -68,29 +68,29 @@ answers :
     ∷ read "(riders 1)\n(rider 0 (with 1 ))\n(retained)\n(rounds 0)\n"
     ∷ read "(riders 1)\n(rider 0 (with 1)\n(retained)\n(rounds 0)\n"
     ∷ [])
-    (Reading.Read (record { riders = 0; links = 0; beyond = 65536; rounds = 0 })
-    ∷ Reading.Departs 1
-    ∷ Reading.Departs 1
-    ∷ Reading.Departs 1
-    ∷ Reading.Departs 1
-    ∷ Reading.Departs 1
-    ∷ Reading.Departs 1
-    ∷ Reading.Departs 2
-    ∷ Reading.Departs 3
-    ∷ Reading.Departs 4
-    ∷ Reading.Departs 4
-    ∷ Reading.Departs 2
-    ∷ Reading.Departs 2
-    ∷ Reading.Departs 2
-    ∷ Reading.Departs 2
-    ∷ Reading.Departs 3
-    ∷ Reading.Departs 3
-    ∷ Reading.Departs 2
-    ∷ Reading.Departs 2
-    ∷ Reading.Departs 2
-    ∷ Reading.Departs 2
-    ∷ Reading.Departs 2
-    ∷ Reading.Departs 2
+    (Ok (record { riders = 0; links = 0; beyond = None; rounds = 0 })
+    ∷ Err 1
+    ∷ Err 1
+    ∷ Err 1
+    ∷ Err 1
+    ∷ Err 1
+    ∷ Err 1
+    ∷ Err 2
+    ∷ Err 3
+    ∷ Err 4
+    ∷ Err 4
+    ∷ Err 2
+    ∷ Err 2
+    ∷ Err 2
+    ∷ Err 2
+    ∷ Err 3
+    ∷ Err 3
+    ∷ Err 2
+    ∷ Err 2
+    ∷ Err 2
+    ∷ Err 2
+    ∷ Err 2
+    ∷ Err 2
     ∷ [])
 unfolding reading_of rest_of rider_lines_read retained_line_read rider_lines_from starts_from rider_at retained_at list_at list_from form_at begins number_of digits flatten ascending all below tabulate spell lines_of rider_lines riders_line rider_line retained_line rounds_line spelled_list decimal decimal_from
 answers = (refl, refl, refl, refl, refl)

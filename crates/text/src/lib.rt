@@ -4,5 +4,4 @@
 
 mod read; // the whole text
 
-pub use lines::list::NONE;
-pub use read::{Reading, Summary, read_text};
+pub use read::{Summary, read_text};

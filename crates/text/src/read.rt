@@ -1,92 +1,70 @@
-// The whole text: the number of riders, a line for each, the retained, the rounds, and nothing more.
+// The whole text: the number of riders, a line for each, the retained, the rounds, and nothing more. A text that departs
+// is answered by the number of the first line that departs from its form, is missing or is extra.
 ghost use Rattle.std.specs.Prelude.{◌≡◌, ◌≤◌, length};
 ghost use mathlib.Core.List.{flatten};
 ghost use Rattle.std.proofs.lemmas.List.Edits.{sets};
 ghost use Rattle.lines.specs.List.{anchor};
 ghost use Rattle.lines.specs.Line.{retained_at};
-ghost use Rattle.text.specs.Text.{rider_lines_at, rider_lines_of, starts_of, rest_of, reading_of, starts_read, links_read, retained_read};
+ghost use Rattle.text.specs.Text.{rider_lines_at, rider_lines_of, read_to, starts_of, rest_of, reading_of, starts_read, links_read, retained_read};
 
-use lines::line::{LineRead, number_of, retained_line, rider_line, riders_line, rounds_line};
+use lines::line::{retained_line, rider_line, riders_line, rounds_line};
 use lines::list::store;
-use reader::number::Cursor;
+use reader::Reader;
 
-// All the riders' lines: the number of links and the cursor after them, or the first line that departs.
-#[derive(Drop)]
-enum RiderLines {
-    Links(usize, Cursor),
-    Departs(usize),
-}
-
-// What the text says beside its lists. `beyond` is the first retained number of n or more, or NONE, 65,536.
-#[derive(Clone, Copy)]
+// What the text says beside its lists. `beyond` is the first retained number of n or more, if there is one.
+#[derive(Clone, Copy, Debug, PartialEq, Eq)]
 pub struct Summary {
     pub riders: u16,
     pub links: usize,
-    pub beyond: usize,
+    pub beyond: Option<u16>,
     pub rounds: u16,
 }
 
-// The whole text read, or the first line that departs from its form, is missing or is extra.
-#[derive(Drop)]
-pub enum Reading {
-    Read(Summary),
-    Departs(usize),
-}
-
-// The lines of riders 0 to n - 1. Starts and links are stored as far as there is room for them.
+// The lines of riders 0 to n - 1, and how many links they have. Starts and links are stored as far as there is room for
+// them.
 fn rider_lines(
-    text: &[u8],
-    from: Cursor,
+    reader: &mut Reader,
     n: u16,
     starts: &mut [u16],
     links: &mut [u16],
-) -> RiderLines
-    requires text_len_bound { length text.now ≤ 65536 }
-    requires at_in_bounds { from.at ≤ length text.now }
-    ensures value { result ≡ rider_lines_of (rider_lines_at n text.now from.at) }
-    ensures starts_value { starts.new ≡ sets starts.old 0 (starts_of (rider_lines_at n text.now from.at)) }
-    ensures links_value { links.new ≡ sets links.old 0 (flatten (rider_lines_at n text.now from.at).lists) }
+) -> Result<usize, usize>
+    requires text_len_bound { length reader.old.text.now ≤ 65536 }
+    requires at_in_bounds { reader.old.at ≤ length reader.old.text.now }
+    ensures value { read_to result reader.new.at ≡ rider_lines_of (rider_lines_at n reader.old.text.now reader.old.at) }
+    ensures text { reader.new.text ≡ reader.old.text }
+    ensures starts_value { starts.new ≡ sets starts.old 0 (starts_of (rider_lines_at n reader.old.text.now reader.old.at)) }
+    ensures links_value { links.new ≡ sets links.old 0 (flatten (rider_lines_at n reader.old.text.now reader.old.at).lists) }
 {
-    let mut place = from.at;
     let mut count: usize = 0;
     let mut number: usize = 2;
-    let mut v: u16 = 0;
-    while v < n {
+    for v in 0..n {
         store(starts, v as usize, count as u16);
-        let here = Cursor { at: place };
-        let LineRead::Kept(line, more, next) = rider_line(text, here, number, v, links, count)
-        else {
-            return RiderLines::Departs(number);
-        };
+        let (line, more) = rider_line(reader, number, v, links, count).ok_or(number)?;
         count = more;
         number = line.number + 1;
-        place = next.at;
-        v += 1;
     }
     store(starts, n as usize, count as u16);
-    RiderLines::Links(count, Cursor { at: place })
+    Ok(count)
 }
 
 // What follows the riders' lines: the retained, the rounds, and nothing more.
-fn read_rest(text: &[u8], from: Cursor, n: u16, links: usize, anchored: &mut [u8]) -> Reading
-    ensures value { result ≡ rest_of text.now n links from.at }
-    ensures anchored_value { anchored.new ≡ anchor anchored.old (retained_at text.now from.at).values }
+fn read_rest(
+    reader: &mut Reader,
+    n: u16,
+    links: usize,
+    anchored: &mut [u8],
+) -> Result<Summary, usize>
+    ensures value { result ≡ rest_of reader.old.text.now n links reader.old.at }
+    ensures anchored_value { anchored.new ≡ anchor anchored.old (retained_at reader.old.text.now reader.old.at).values }
 {
     let number = n as usize + 2;
-    let LineRead::Kept(line, beyond, next) = retained_line(text, from, number, n, anchored) else {
-        return Reading::Departs(number);
-    };
+    let (line, beyond) = retained_line(reader, number, n, anchored).ok_or(number)?;
     let after = line.number + 1;
-    let LineRead::Kept(last, _, end) = rounds_line(text, next, after) else {
-        return Reading::Departs(after);
-    };
-    let at = end.at;
-    if at != text.len() {
-        return Reading::Departs(last.number + 1);
+    let (last, rounds) = rounds_line(reader, after).ok_or(after)?;
+    if !reader.at_end() {
+        return Err(last.number + 1);
     }
-    let form = last.form;
-    let rounds = number_of(form);
-    Reading::Read(Summary {
+    Ok(Summary {
         riders: n,
         links,
         beyond,
@@ -96,20 +74,21 @@ fn read_rest(text: &[u8], from: Cursor, n: u16, links: usize, anchored: &mut [u8
 
 // Reads a text of at most 65,536 bytes. Starts, links and anchored bytes are stored as far as there is room for them,
 // up to a line that departs.
-pub fn read_text(text: &[u8], starts: &mut [u16], links: &mut [u16], anchored: &mut [u8]) -> Reading
+pub fn read_text(
+    text: &[u8],
+    starts: &mut [u16],
+    links: &mut [u16],
+    anchored: &mut [u8],
+) -> Result<Summary, usize>
     requires { length text.now ≤ 65536 }
     ensures value { result ≡ reading_of text.now }
     ensures starts_value { starts.new ≡ sets starts.old 0 (starts_read text.now) }
     ensures links_value { links.new ≡ sets links.old 0 (links_read text.now) }
     ensures anchored_value { anchored.new ≡ anchor anchored.old (retained_read text.now) }
 {
-    let LineRead::Kept(first, _, next) = riders_line(text, Cursor { at: 0 }, 1) else {
-        return Reading::Departs(1);
-    };
-    let form = first.form;
-    let n = number_of(form);
-    match rider_lines(text, next, n, starts, links) {
-        RiderLines::Links(count, rest) => read_rest(text, rest, n, count, anchored),
-        RiderLines::Departs(number) => Reading::Departs(number),
-    }
+    let mut reader = Reader::new(text);
+    let first: usize = 1;
+    let (_, n) = riders_line(&mut reader, first).ok_or(first)?;
+    let count = rider_lines(&mut reader, n, starts, links)?;
+    read_rest(&mut reader, n, count, anchored)
 }

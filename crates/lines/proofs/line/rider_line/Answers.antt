@@ -1,47 +1,53 @@
 -- `line::rider_line` meets its contract: a return for each part of `rider_at`. Assumes nothing.
-use Rattle.std.proofs.Common.{sym, ◌∙◌, arith}
+use Rattle.std.proofs.Common.{sym, arith}
+use Rattle.std.proofs.lemmas.Grind.{common_steps}
+use Rattle.std.proofs.lemmas.Bool.Decides.{nat_tests}
 use Rattle.finite.specs.Bytes.{bytes}
 use Rattle.reader.proofs.Forms.{form_in}
-use Rattle.lines.proofs.Lines.{rider_departs, rider_other, rider_no_list, rider_no_tail, rider_whole}
+use Rattle.lines.specs.Line.{rider_at}
 use Rattle.lines.proofs.line.rider_line.Goals as goal
 
-pub returns-in_default : goal.returns-in_default
-returns-in_default c =
-    let done = rider_departs c.args.text.now c.args.from.at c.args.number c.args.v c.args.before c.args.links.now (sym c.take_form.ensures ∙ c.in_default.is) in
-    record { value = done.0; links_value = done.1 }
+pub returns-in_err-rider-clause-value : goal.returns-in_err-rider-clause-value
+unfolding rider_at
+returns-in_err-rider-clause-value c = grind (arith, common_steps, nat_tests)
 
-pub returns-then-rider-v : goal.returns-then-rider-v
-returns-then-rider-v c =
-    let done =
-    rider_other c.args.text.now c.args.from.at c.args.number c.args.v c.args.before c.args.links.now c.in-Value.rider c.in-Value.first
-    (sym c.take_form.ensures ∙ c.in-Value.is) (omega arith) in
-    record { value = done.0; links_value = done.1 }
+pub returns-in_err-rider-clause-links_value : goal.returns-in_err-rider-clause-links_value
+unfolding rider_at
+returns-in_err-rider-clause-links_value c = grind (arith, common_steps, nat_tests)
+
+pub returns-then-rider-v-clause-value : goal.returns-then-rider-v-clause-value
+unfolding rider_at
+returns-then-rider-v-clause-value c = grind (arith, common_steps, nat_tests)
+
+pub returns-then-rider-v-clause-links_value : goal.returns-then-rider-v-clause-links_value
+unfolding rider_at
+returns-then-rider-v-clause-links_value c = grind (arith, common_steps, nat_tests)
 
 pub take_neighbors-requires : goal.take_neighbors-requires
 take_neighbors-requires c =
-    let further = form_in c.args.text.now c.args.from.at 40 (bytes "rider ") 32 (bytes "(with") c.in-Value.rider c.in-Value.first (sym c.take_form.ensures ∙ c.in-Value.is) in
+    let further = form_in c.args.reader.now.text.now c.args.reader.now.at 40 (bytes "rider ") 32 (bytes "(with") c.in_ok-rider.rider c.form.new.self.at (sym c.in_ok-rider.ensures.value) in
     omega arith
 
-pub returns-in_default-take_neighbors : goal.returns-in_default-take_neighbors
-returns-in_default-take_neighbors c =
-    let done =
-    rider_no_list c.args.text.now c.args.from.at c.args.number c.args.v c.args.before c.args.links.now c.take_neighbors.new.links c.in-Value.rider c.in-Value.first
-    (sym c.take_form.ensures ∙ c.in-Value.is) (omega arith) c.take_neighbors.ensures.links_value
-    (sym c.take_neighbors.ensures.value ∙ c.in_default-take_neighbors.is) in
-    record { value = done.0; links_value = done.1 }
+pub returns-in_err-count-clause-value : goal.returns-in_err-count-clause-value
+unfolding rider_at
+returns-in_err-count-clause-value c = grind (arith, common_steps, nat_tests)
 
-pub returns-in_default-skip : goal.returns-in_default-skip
-returns-in_default-skip c =
-    let done =
-    rider_no_tail c.args.text.now c.args.from.at c.args.number c.args.v c.args.before c.args.links.now c.take_neighbors.new.links c.in-Value.rider c.in-Value.first
-    (sym c.take_form.ensures ∙ c.in-Value.is) (omega arith) c.take_neighbors.ensures.links_value
-    c.in-Ends.count c.in-Ends.last (sym c.take_neighbors.ensures.value ∙ c.in-Ends.is) (sym c.skip.ensures ∙ c.in_default-skip.is) in
-    record { value = done.0; links_value = done.1 }
+pub returns-in_err-count-clause-links_value : goal.returns-in_err-count-clause-links_value
+unfolding rider_at
+returns-in_err-count-clause-links_value c = grind (arith, common_steps, nat_tests)
 
-pub returns : goal.returns
-returns c =
-    let done =
-    rider_whole c.args.text.now c.args.from.at c.args.number c.args.v c.args.before c.args.links.now c.take_neighbors.new.links c.in-Value.rider c.in-Value.first
-    (sym c.take_form.ensures ∙ c.in-Value.is) (omega arith) c.take_neighbors.ensures.links_value
-    c.in-Ends.count c.in-Ends.last c.in-To.next (sym c.take_neighbors.ensures.value ∙ c.in-Ends.is) (sym c.skip.ensures ∙ c.in-To.is) in
-    record { value = done.0; links_value = done.1 }
+pub returns-in_err-skip-clause-value : goal.returns-in_err-skip-clause-value
+unfolding rider_at
+returns-in_err-skip-clause-value c = grind (arith, common_steps, nat_tests)
+
+pub returns-in_err-skip-clause-links_value : goal.returns-in_err-skip-clause-links_value
+unfolding rider_at
+returns-in_err-skip-clause-links_value c = grind (arith, common_steps, nat_tests)
+
+pub returns-clause-value : goal.returns-clause-value
+unfolding rider_at
+returns-clause-value c = grind (arith, common_steps, nat_tests)
+
+pub returns-clause-links_value : goal.returns-clause-links_value
+unfolding rider_at
+returns-clause-links_value c = grind (arith, common_steps, nat_tests)

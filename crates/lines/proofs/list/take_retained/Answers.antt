@@ -1,34 +1,51 @@
 -- `list::take_retained` meets its contract. Assumes nothing.
-use Rattle.std.proofs.Common.{sym, ◌∙◌, ◌+◌, arith}
+use Rattle.std.proofs.Common.{refl, sym, ap, ◌∙◌, arith}
+use Rattle.std.specs.Option.{option_or}
 use Rattle.reader.proofs.Numbers.{number-next}
-use Rattle.lines.proofs.Lists.{space_in, anchoring-first, anchoring-more, anchoring_departs, anchoring_done, anchoring-unsorted}
+use Rattle.lines.proofs.Lists.{space_in, space-taken, space-none, earlier_step, anchoring-first, anchoring-more, anchoring_departs, anchoring_done}
 use Rattle.lines.proofs.list.take_retained.Goals as goal
 
-pub loop-byte-init : goal.loop-byte-init
-loop-byte-init c = anchoring-first _ _ _ _ _ c.byte_at-byte.ensures
+pub loop-reader-init : goal.loop-reader-init
+loop-reader-init c = record { text = refl; anchoring = anchoring-first _ _ _ _ }
 
-pub returns-in_default : goal.returns-in_default
-returns-in_default c =
-    let done = anchoring_departs _ _ _ _ _ _ _ _ _ _ c.loop-byte.invariant c.loop-byte-test.true (sym c.take_number.ensures ∙ c.in_default.is) in
-    record { value = done.0; anchored_value = done.1 }
+pub returns-in_err-v-clause-value : goal.returns-in_err-v-clause-value
+returns-in_err-v-clause-value c =
+    let space = space-taken c.loop-reader.reader.text.now c.loop-reader.reader.at c.skip.new.self.at c.skip.result (sym c.loop-reader-test.ensures) c.skip.ensures.value in
+    let byte = rw c.loop-reader.invariant.text at space.0 in
+    let number = rw (c.skip.ensures.text, c.loop-reader.invariant.text, space.1) at (sym c.in_err-v.ensures.value) in
+    rw c.from_residual.ensures (anchoring_departs _ _ _ _ _ _ _ _ _ c.loop-reader.invariant.anchoring byte number).0
 
-pub loop-byte-smaller : goal.loop-byte-smaller
-loop-byte-smaller c =
-    let within = space_in c.args.text.now c.loop-byte.place (sym c.loop-byte.invariant.here ∙ c.loop-byte-test.true) in
-    let further = number-next c.args.text.now (c.loop-byte.place + 1) c.in-Value.v c.in-Value.next (sym c.take_number.ensures ∙ c.in-Value.is) in
-    omega arith
+pub returns-in_err-v-clause-anchored_value : goal.returns-in_err-v-clause-anchored_value
+returns-in_err-v-clause-anchored_value c =
+    let space = space-taken c.loop-reader.reader.text.now c.loop-reader.reader.at c.skip.new.self.at c.skip.result (sym c.loop-reader-test.ensures) c.skip.ensures.value in
+    let byte = rw c.loop-reader.invariant.text at space.0 in
+    let number = rw (c.skip.ensures.text, c.loop-reader.invariant.text, space.1) at (sym c.in_err-v.ensures.value) in
+    (anchoring_departs _ _ _ _ _ _ _ _ _ c.loop-reader.invariant.anchoring byte number).1
 
-pub loop-byte-preserved : goal.loop-byte-preserved
-loop-byte-preserved c =
-    anchoring-more _ _ _ _ _ _ _ _ _ _ c.loop-byte.invariant _ _ _ _ _ _ c.loop-byte-test.true (sym c.take_number.ensures ∙ c.in-Value.is)
-    c.anchor.ensures c.still_ascending-ascending.ensures c.first_beyond-beyond.ensures c.byte_at-byte-in-loop-byte.ensures
+pub loop-reader-smaller : goal.loop-reader-smaller
+loop-reader-smaller c =
+    let space = space-taken c.loop-reader.reader.text.now c.loop-reader.reader.at c.skip.new.self.at c.skip.result (sym c.loop-reader-test.ensures) c.skip.ensures.value in
+    let within = space_in c.loop-reader.reader.text.now c.loop-reader.reader.at space.0 in
+    let further = number-next c.skip.new.self.text.now c.skip.new.self.at c.in_ok-v.v c.number.new.self.at (sym c.in_ok-v.ensures.value) in
+    rw (c.number.ensures.text, c.skip.ensures.text) (omega arith)
 
-pub returns-then-ascending : goal.returns-then-ascending
-returns-then-ascending c =
-    let done = anchoring_done _ _ _ _ _ _ _ _ _ _ c.loop-byte.invariant c.if-ascending.true c.loop-byte-test.false in
-    record { value = done.0; anchored_value = done.1 }
+pub loop-reader-preserved : goal.loop-reader-preserved
+loop-reader-preserved c =
+    let space = space-taken c.loop-reader.reader.text.now c.loop-reader.reader.at c.skip.new.self.at c.skip.result (sym c.loop-reader-test.ensures) c.skip.ensures.value in
+    let byte = rw c.loop-reader.invariant.text at space.0 in
+    let number = rw (c.skip.ensures.text, c.loop-reader.invariant.text, space.1) at (sym c.in_ok-v.ensures.value) in
+    let beyond = c.or-beyond.ensures ∙ ap (option_or c.loop-reader.beyond) c.then_some.ensures ∙ earlier_step c.loop-reader.beyond c.args.n c.in_ok-v.v in
+    record {
+      text = c.number.ensures.text ∙ c.skip.ensures.text ∙ c.loop-reader.invariant.text;
+      anchoring = anchoring-more _ _ _ _ _ _ _ _ _ c.loop-reader.invariant.anchoring c.in_ok-v.v c.number.new.self.at c.store.new.values _ c.or-beyond.result byte number c.store.ensures refl beyond;
+    }
 
-pub returns-else-ascending : goal.returns-else-ascending
-returns-else-ascending c =
-    let done = anchoring-unsorted _ _ _ _ _ _ _ _ _ _ c.loop-byte.invariant c.if-ascending.false c.loop-byte-test.false in
-    record { value = done.0; anchored_value = done.1 }
+pub returns-clause-value : goal.returns-clause-value
+returns-clause-value c =
+    let none = space-none c.loop-reader.reader.text.now c.loop-reader.reader.at c.skip.new.self.at c.skip.result (sym c.loop-reader-test.ensures) c.skip.ensures.value in
+    rw (c.then_some-2.ensures, c.skip.ensures.stays (sym c.loop-reader-test.ensures)) (anchoring_done _ _ _ _ _ _ _ _ _ c.loop-reader.invariant.anchoring (rw c.loop-reader.invariant.text at none)).0
+
+pub returns-clause-anchored_value : goal.returns-clause-anchored_value
+returns-clause-anchored_value c =
+    let none = space-none c.loop-reader.reader.text.now c.loop-reader.reader.at c.skip.new.self.at c.skip.result (sym c.loop-reader-test.ensures) c.skip.ensures.value in
+    (anchoring_done _ _ _ _ _ _ _ _ _ c.loop-reader.invariant.anchoring (rw c.loop-reader.invariant.text at none)).1

@@ -1,35 +1,66 @@
--- `read::read_text` meets its contract, from those of its parts. Assumes nothing.
-use Rattle.std.proofs.Common.{sym, ◌∙◌}
+-- `read::read_text` meets its contract. Assumes nothing.
+use Rattle.std.proofs.Common.{refl, sym, arith}
+use Rattle.std.proofs.lemmas.Grind.{common_steps}
+use Rattle.std.proofs.lemmas.Bool.Decides.{nat_tests}
+use mathlib.Core.List.{flatten}
 use Rattle.finite.specs.Bytes.{bytes}
 use Rattle.reader.proofs.Forms.{form_in}
-use Rattle.lines.specs.Line.{number_of_form}
-use Rattle.text.proofs.Texts.{first_read, text_departs, text_lost, text_whole}
+use Rattle.lines.specs.declared.line.Form.{Form}
+use Rattle.lines.proofs.Lines.{form_kept}
+use Rattle.text.specs.Text.{starts_from, reading_of, rider_lines_read, retained_line_read}
 use Rattle.text.proofs.read.read_text.Goals as goal
 
-pub returns-in_default : goal.returns-in_default
-returns-in_default c =
-    let done = text_departs c.args.text.now c.args.starts.now c.args.links.now c.args.anchored.now (sym c.riders_line.ensures ∙ c.in_default.is) in
-    record { value = done.0; starts_value = done.1.0; links_value = done.1.1.0; anchored_value = done.1.1.1 }
+pub returns-in_err-n-clause-value : goal.returns-in_err-n-clause-value
+unfolding reading_of rider_lines_read retained_line_read
+returns-in_err-n-clause-value c = grind (arith, common_steps, nat_tests)
+
+pub returns-in_err-n-clause-starts_value : goal.returns-in_err-n-clause-starts_value
+unfolding rider_lines_read starts_from flatten
+returns-in_err-n-clause-starts_value c = grind (arith, common_steps, nat_tests)
+
+pub returns-in_err-n-clause-links_value : goal.returns-in_err-n-clause-links_value
+unfolding rider_lines_read starts_from flatten
+returns-in_err-n-clause-links_value c = grind (arith, common_steps, nat_tests)
+
+pub returns-in_err-n-clause-anchored_value : goal.returns-in_err-n-clause-anchored_value
+unfolding reading_of rider_lines_read retained_line_read
+returns-in_err-n-clause-anchored_value c = grind (arith, common_steps, nat_tests)
 
 pub rider_lines-requires-clause-at_in_bounds : goal.rider_lines-requires-clause-at_in_bounds
 rider_lines-requires-clause-at_in_bounds c =
-    (form_in c.args.text.now 0 40 (bytes "riders ") 41 (bytes "\n") (number_of_form c.in-Kept.first.form) c.in-Kept.next
-    (first_read c.args.text.now c.in-Kept.first c.in-Kept.field-1 c.in-Kept.next (sym c.riders_line.ensures ∙ c.in-Kept.is))).1
+    let line = c.in_ok-n.field-0-0 in
+    let answer = rw c.in_ok-n.ensures.ok_part at (sym c.riders_line.ensures.value) in
+    let read = form_kept 1 Form.Riders (λ v. refl) _ line c.in_ok-n.n c.riders_line.new.reader.at answer in
+    rw c.riders_line.ensures.text (form_in _ _ 40 (bytes "riders ") 41 (bytes "\n") c.in_ok-n.n c.riders_line.new.reader.at read.0).1
 
-pub returns-in-Links : goal.returns-in-Links
-returns-in-Links c =
-    let done =
-    text_whole c.args.text.now c.args.starts.now c.args.links.now c.args.anchored.now c.rider_lines.new.starts c.rider_lines.new.links
-    c.in-Kept.first c.in-Kept.field-1 c.in-Kept.next c.number_of-n.result c.rider_lines.result
-    (sym c.riders_line.ensures ∙ c.in-Kept.is) c.number_of-n.ensures (c.rider_lines.ensures.value, (c.rider_lines.ensures.starts_value, c.rider_lines.ensures.links_value))
-    c.read_rest.new.anchored c.in-Links.count c.in-Links.rest c.read_rest.result c.in-Links.is (c.read_rest.ensures.value, c.read_rest.ensures.anchored_value) in
-    record { value = done.0; starts_value = done.1.0; links_value = done.1.1.0; anchored_value = done.1.1.1 }
+pub returns-in_err-count-clause-value : goal.returns-in_err-count-clause-value
+unfolding reading_of rider_lines_read retained_line_read
+returns-in_err-count-clause-value c = grind (arith, common_steps, nat_tests)
 
-pub returns-in-Departs : goal.returns-in-Departs
-returns-in-Departs c =
-    let done =
-    text_lost c.args.text.now c.args.starts.now c.args.links.now c.args.anchored.now c.rider_lines.new.starts c.rider_lines.new.links
-    c.in-Kept.first c.in-Kept.field-1 c.in-Kept.next c.number_of-n.result c.rider_lines.result
-    (sym c.riders_line.ensures ∙ c.in-Kept.is) c.number_of-n.ensures (c.rider_lines.ensures.value, (c.rider_lines.ensures.starts_value, c.rider_lines.ensures.links_value))
-    c.in-Departs.number c.in-Departs.is in
-    record { value = done.0; starts_value = done.1.0; links_value = done.1.1.0; anchored_value = done.1.1.1 }
+pub returns-in_err-count-clause-starts_value : goal.returns-in_err-count-clause-starts_value
+unfolding reading_of rider_lines_read retained_line_read
+returns-in_err-count-clause-starts_value c = grind (arith, common_steps, nat_tests)
+
+pub returns-in_err-count-clause-links_value : goal.returns-in_err-count-clause-links_value
+unfolding reading_of rider_lines_read retained_line_read
+returns-in_err-count-clause-links_value c = grind (arith, common_steps, nat_tests)
+
+pub returns-in_err-count-clause-anchored_value : goal.returns-in_err-count-clause-anchored_value
+unfolding reading_of rider_lines_read retained_line_read
+returns-in_err-count-clause-anchored_value c = grind (arith, common_steps, nat_tests)
+
+pub returns-clause-value : goal.returns-clause-value
+unfolding reading_of rider_lines_read retained_line_read
+returns-clause-value c = grind (arith, common_steps, nat_tests)
+
+pub returns-clause-starts_value : goal.returns-clause-starts_value
+unfolding reading_of rider_lines_read retained_line_read
+returns-clause-starts_value c = grind (arith, common_steps, nat_tests)
+
+pub returns-clause-links_value : goal.returns-clause-links_value
+unfolding reading_of rider_lines_read retained_line_read
+returns-clause-links_value c = grind (arith, common_steps, nat_tests)
+
+pub returns-clause-anchored_value : goal.returns-clause-anchored_value
+unfolding reading_of rider_lines_read retained_line_read
+returns-clause-anchored_value c = grind (arith, common_steps, nat_tests)
