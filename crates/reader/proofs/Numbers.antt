@@ -3,11 +3,10 @@ use mathlib.Core.Path.{◌≡◌, refl, sym, ap, ◌∙◌}
 use mathlib.Core.Bool.{Bool, true, false, cond, ◌&&◌}
 use mathlib.Core.List.{List, [], ◌∷◌}
 use Prim.Native.Nat.{ℕ, zero, suc, ◌+◌, ◌*◌, ◌≤◌, ◌<◌}
-use native.Mathlib.Nat.{add-zero}
 use native.Mathlib.Omega.{arith}
 use native.Mathlib.Numerals.{add-one}
 use lib.ListN.{length, get_or, drop, get_or-eq_default}
-use lib.Seq.{drop-cons, drop-nil, get_or-drop}
+use lib.Seq.{drop-cons, drop-nil}
 use lib.Dec.{ltb, leb}
 use borrow.Author.Tests.{lt-ltb, le-ltb, ltb-true, ltb-false, ne_eqb, lt-leb, le-leb, leb-true}
 use Rattle.std.specs.Prelude.{Option, Some, None, slice_get, unwrap_or}
@@ -63,9 +62,9 @@ number-zero t p e h = rw (digits_more t p (omega arith), digits-none t (p + 1) h
 
 -- ---- the digit found
 
--- the first byte of the rest of the text is that at the place, 0 past its end
-pub first_is : (t : List ℕ) (p : ℕ) (r : Option ℕ) → r ≡ slice_get (drop p t) 0 → get_or t p 0 ≡ unwrap_or r 0
-first_is t p r e = ap (λ (k : ℕ). get_or t k 0) (sym (add-zero p)) ∙ sym (get_or-drop p t 0 0) ∙ sym (unwrap_or-slice_get (drop p t) 0 0) ∙ ap (λ (o : Option ℕ). unwrap_or o 0) (sym e)
+-- a byte at a place of the text, or 0 where there is none
+pub peeked : (t : List ℕ) (p : ℕ) (r : Option ℕ) → r ≡ slice_get t p → get_or t p 0 ≡ unwrap_or r 0
+peeked t p r e = sym (unwrap_or-slice_get t p 0) ∙ ap (λ (o : Option ℕ). unwrap_or o 0) (sym e)
 
 pub digit_is : (t : List ℕ) (p d : ℕ) → digit_found t p ≡ Some d → (digit_at t p ≡ d) × (d < 10)
 digit_is t p d e = go (ltb (digit_at t p) 10) refl e

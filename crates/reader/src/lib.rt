@@ -2,7 +2,7 @@
 
 #![tactic(auto)]
 
-ghost use Rattle.std.specs.Prelude.{◌≡◌, ◌+◌, None, IsNone, MatchOption, option_map, eqb, length, drop};
+ghost use Rattle.std.specs.Prelude.{◌≡◌, ◌+◌, None, IsNone, MatchOption, option_map, slice_get, eqb, length, drop};
 ghost use Rattle.reader.specs.Number.{digit_found, number_at, placed};
 ghost use Rattle.reader.specs.Form.{skip_at, form_at};
 
@@ -37,13 +37,20 @@ impl<'a> Reader<'a> {
         self.at == self.text.len()
     }
 
+    // The byte at the position, if the text goes on there.
+    pub fn peek(&self) -> Option<u8>
+        ensures { result ≡ slice_get self.now.text.now self.now.at }
+    {
+        self.text.get(self.at).copied()
+    }
+
     // The digit at the position.
-    #[tactic(auto, using(crate::proofs::Numbers::first_is), unfolding(crate::specs::Number::digit_at))]
+    #[tactic(auto, using(crate::proofs::Numbers::peeked), unfolding(crate::specs::Number::digit_at))]
     fn digit(&self) -> Option<u16>
         ensures { result ≡ digit_found self.now.text.now self.now.at }
     {
-        match self.rest().first() {
-            Some(b @ b'0'..=b'9') => Some((*b - b'0') as u16),
+        match self.peek() {
+            Some(b @ b'0'..=b'9') => Some((b - b'0') as u16),
             _ => None,
         }
     }
