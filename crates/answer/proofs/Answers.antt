@@ -22,8 +22,9 @@ use Rattle.sheet.proofs.Lines.{sheet_length}
 use Rattle.sheet.proofs.Written.{written-front}
 use Rattle.rounds.specs.Rounds.{rounds_of}
 use Rattle.rounds.proofs.Playing.{rounds-length}
-use Rattle.answer.specs.Answer.{size_of, room_of, asked_of, text_of, rounds_sheet, sheet_of_text, answer_of}
-use Rattle.answer.specs.declared.call.Answered.TheVariants.{Sheet, Refused as SheetRefused}
+use Rattle.std.specs.Prelude.{Option, Some, None}
+use Rattle.answer.specs.Answer.{size_of, beyond_of, room_of, asked_of, text_of, rounds_sheet, sheet_of_text, answer_of}
+use Rattle.answer.specs.declared.call.Answered.TheVariants.{Sheet, Err as SheetRefused}
 
 module _ (t : List ℕ) (room : ℕ) where
   -- the answer is a refusal only where the guard is
@@ -60,7 +61,7 @@ pub record Granted (asked : Summary) (s l : List ℕ) (room : ℕ) : Type 0 wher
   pub table : check_of s l ≡ clear
   pub rounds : asked.rounds ≤ 60
   pub enough : size_of asked ≤ room
-  pub within : 65536 ≤ asked.beyond
+  pub within : asked.beyond ≡ None
 
 pub granted : (asked : Summary) (s l : List ℕ) (room : ℕ) → asked_of asked s l room ≡ clear → Granted asked s l room
 unfolding asked_of
@@ -70,15 +71,18 @@ granted asked s l room e =
     let table = both-passed (check_of s l) _ many.1 in
     let rounds = went_on _ _ _ _ table.1 in
     let short = went_on _ _ _ _ rounds.1 in
-    let beyond = went_on _ _ _ _ short.1 in
     record {
       small = ltb-false _ _ large.0;
       few = ltb-false _ _ many.0;
       table = table.0;
       rounds = ltb-false _ _ rounds.0;
       enough = ltb-false _ _ short.0;
-      within = ltb-false _ _ beyond.0;
+      within = none_beyond asked.beyond short.1;
     }
+  where
+    none_beyond : (b : Option ℕ) → beyond_of b ≡ clear → b ≡ None
+    none_beyond (Some w) e = absurd (let z : ◌≡◌ {A = ℕ} 0 1 = cc in omega arith)
+    none_beyond None e = refl
 
 -- ---- the call on arrays that the table stands at the front of
 

@@ -20,11 +20,10 @@ use Rattle.std.specs.Prelude.{Ok, Err}
 use Rattle.table.proofs.Laws.{pass}
 use Rattle.text.specs.Text.{reading_of, starts_read, links_read, rider_lines_read}
 use Rattle.text.specs.declared.read.Summary.{Summary}
-use Rattle.text.specs.declared.read.Reading.{Reading}
-use Rattle.text.specs.declared.read.Reading.TheVariants.{Read, Departs}
+use Rattle.std.specs.Prelude.{Option, Some, None, Result, Ok, Err}
 use Rattle.text.proofs.Arrays.{table-read}
-use Rattle.answer.specs.Answer.{room_of, size_of, asked_of, text_of, answer_of}
-use Rattle.answer.specs.declared.call.Answered.TheVariants.{Refused as SheetRefused}
+use Rattle.answer.specs.Answer.{beyond_of, room_of, size_of, asked_of, text_of, answer_of}
+use Rattle.answer.specs.declared.call.Answered.TheVariants.{Err as SheetRefused}
 use Rattle.answer.proofs.Answers.{refused-answer}
 
 -- 17, 18, then 2, 3, 5, 6, 7, 8, 11, 12, 15
@@ -32,7 +31,7 @@ abbrev pub of_texts : ℕ → Bool
 of_texts k = member k (17 ∷ 18 ∷ 2 ∷ 3 ∷ 5 ∷ 6 ∷ 7 ∷ 8 ∷ 11 ∷ 12 ∷ 15 ∷ [])
 
 -- the starts that were read pass test 4
-starts_good : (t : List ℕ) {asked : Summary} → reading_of t ≡ Read asked → NoneBelow (bad_start (starts_read t) (links_read t)) (length (starts_read t))
+starts_good : (t : List ℕ) {asked : Summary} → reading_of t ≡ Ok asked → NoneBelow (bad_start (starts_read t) (links_read t)) (length (starts_read t))
 unfolding bad_start
 starts_good t {asked} e i h =
     let laid = table-read t asked e in
@@ -103,7 +102,11 @@ module _ (x : Refusal) (room : ℕ) where
       next (ltb room (size_of asked)) 12 0 _
       (λ t. lt→ltb room 64320 (omega (arith, ltb→lt room (size_of asked) t, mul-le-mul_right (48 + asked.riders) (nltb→le 60 asked.rounds few))))
       e₁ (λ t e₂.
-      next (ltb asked.beyond 65536) 15 asked.beyond _ (λ s. tt) e₂ (λ s. passed-not)))
+      late asked.beyond e₂))
+    where
+      late : (b : Option ℕ) → beyond_of b ≡ Err x → Listed
+      late (Some beyond) e = told 15 beyond tt e
+      late None e = passed-not e
 
   -- of two guards the first refuses, or the second
   either : (first next : Guard) → past first next ≡ Err x → (first ≡ Err x → Listed) → (next ≡ Err x → Listed) → Listed
@@ -122,9 +125,9 @@ module _ (x : Refusal) (room : ℕ) where
   unfolding text_of any
   text_listed t e = next (ltb 65536 (length t)) 17 0 _ (λ s. tt) e (λ s. go (reading_of t) refl)
     where
-      go : (c : Reading) → reading_of t ≡ c → (elim c [ Read asked ↦ asked_of asked (starts_read t) (links_read t) room | Departs line ↦ refused 18 line ]) ≡ Err x → Listed
-      go (Read asked) q e = asked-listed asked (starts_read t) (links_read t) (omega (arith, (table-read t asked q).count)) (starts_good t q) e
-      go (Departs line) q e = told 18 line tt e
+      go : (c : Result Summary ℕ) → reading_of t ≡ c → (elim c [ Ok asked ↦ asked_of asked (starts_read t) (links_read t) room | Err line ↦ refused 18 line ]) ≡ Err x → Listed
+      go (Ok asked) q e = asked-listed asked (starts_read t) (links_read t) (omega (arith, (table-read t asked q).count)) (starts_good t q) e
+      go (Err line) q e = told 18 line tt e
 
 module _ {x : Refusal} (t : List ℕ) (room : ℕ) where
   -- no other number: never 1, 4, 9, 10, 13, 14, 16, 19, 20 or 21

@@ -15,8 +15,7 @@ use Rattle.table.proofs.Laws.{went_on}
 use Rattle.pool.specs.Input.{graph_of}
 use Rattle.text.specs.Text.{reading_of, starts_read, links_read, retained_read}
 use Rattle.text.specs.declared.read.Summary.{Summary}
-use Rattle.text.specs.declared.read.Reading.{Reading}
-use Rattle.text.specs.declared.read.Reading.TheVariants.{Read, Departs}
+use Rattle.std.specs.Prelude.{Result, Ok, Err}
 use Rattle.text.proofs.Arrays.{riders-count, table-read}
 use Rattle.sheet.proofs.Lines.{sheet_length}
 use Rattle.rounds.specs.Rounds.{rounds_of}
@@ -39,20 +38,20 @@ pub same_length : (t u : List ℕ) → vertices (starts_read t) ≡ vertices (st
 same_length t u n r = rw (text_length t, text_length u, n, r)
 
 -- it is the size that the call tests its room for
-pub size-asked : (t : List ℕ) {asked : Summary} → reading_of t ≡ Read asked → length (sheet_of_text t) ≡ size_of asked
+pub size-asked : (t : List ℕ) {asked : Summary} → reading_of t ≡ Ok asked → length (sheet_of_text t) ≡ size_of asked
 size-asked t {asked} e =
     let n : vertices (starts_read t) ≡ asked.riders = omega (arith, riders-count t asked e, (table-read t asked e).count) in
     rw (text_length t, rounds-read t e, n)
 
 -- a text of which nothing is refused was read whole
-pub text_granted : (t : List ℕ) (room : ℕ) → text_of t room ≡ clear → (asked : Summary) × (reading_of t ≡ Read asked) × Granted asked (starts_read t) (links_read t) room
+pub text_granted : (t : List ℕ) (room : ℕ) → text_of t room ≡ clear → (asked : Summary) × (reading_of t ≡ Ok asked) × Granted asked (starts_read t) (links_read t) room
 unfolding text_of
 text_granted t room e = whole (reading_of t) refl (went_on (ltb 65536 (length t)) 17 0 _ e).1
   where
-    whole : (c : Reading) → reading_of t ≡ c → (elim c [ Read asked ↦ asked_of asked (starts_read t) (links_read t) room | Departs line ↦ refused 18 line ]) ≡ clear
-        → (asked : Summary) × (reading_of t ≡ Read asked) × Granted asked (starts_read t) (links_read t) room
-    whole (Read asked) q e = (asked, q, granted asked (starts_read t) (links_read t) room e)
-    whole (Departs line) q e = let z : ◌≡◌ {A = ℕ} 0 1 = cc in absurd (omega arith)
+    whole : (c : Result Summary ℕ) → reading_of t ≡ c → (elim c [ Ok asked ↦ asked_of asked (starts_read t) (links_read t) room | Err line ↦ refused 18 line ]) ≡ clear
+        → (asked : Summary) × (reading_of t ≡ Ok asked) × Granted asked (starts_read t) (links_read t) room
+    whole (Ok asked) q e = (asked, q, granted asked (starts_read t) (links_read t) room e)
+    whole (Err line) q e = let z : ◌≡◌ {A = ℕ} 0 1 = cc in absurd (omega arith)
 
 module _ (t : List ℕ) (room : ℕ) {size : ℕ} (e : answer_of t room ≡ Sheet size) where
   -- the length answered is the sheet's

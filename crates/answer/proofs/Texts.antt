@@ -18,8 +18,8 @@ use Rattle.pool.specs.Input.{anchored_by}
 use Rattle.lines.specs.List.{anchor, first_beyond}
 use Rattle.text.specs.Text.{reading_of, rider_lines_read, starts_read, links_read, retained_read}
 use Rattle.text.specs.declared.read.Summary.{Summary}
-use Rattle.text.specs.declared.read.Reading.TheVariants.{Read, Departs}
-use Rattle.text.proofs.Accepted.{accepted, numbers-small}
+use Rattle.std.specs.Prelude.{Some, None, Ok, Err}
+use Rattle.text.proofs.Accepted.{accepted}
 use Rattle.text.proofs.Arrays.{riders-count, starts-lent, links-lent, length-anchor, anchored-lent, beyond-none}
 use Rattle.table.proofs.Guards.{accepted-as}
 use Rattle.answer.specs.Answer.{asked_of, text_of, rounds_asked, rounds_sheet, sheet_of_text}
@@ -44,11 +44,11 @@ module _ (t : List ℕ) (room : ℕ) where
   unfolding text_of
   text_long h = rw (text_of, lt-ltb 65536 (length t) h)
 
-  pub text_departs : {line : ℕ} → length t ≤ 65536 → reading_of t ≡ Departs line → text_of t room ≡ refused 18 line
+  pub text_departs : {line : ℕ} → length t ≤ 65536 → reading_of t ≡ Err line → text_of t room ≡ refused 18 line
   unfolding text_of
   text_departs h e = rw (text_of, le-ltb 65536 (length t) h, e)
 
-module _ (t : List ℕ) {asked : Summary} (e : reading_of t ≡ Read asked) where
+module _ (t : List ℕ) {asked : Summary} (e : reading_of t ≡ Ok asked) where
   pub text_read : (room : ℕ) → length t ≤ 65536 → text_of t room ≡ asked_of asked (starts_read t) (links_read t) room
   unfolding text_of
   text_read room h = rw (text_of, le-ltb 65536 (length t) h, e)
@@ -58,7 +58,7 @@ module _ (t : List ℕ) {asked : Summary} (e : reading_of t ≡ Read asked) wher
   rounds-read = rw (rounds_asked, e)
 
   -- the numbers retained, where none is beyond n, as anchored bytes
-  anchors-lent : asked.riders ≤ 1024 → 65536 ≤ asked.beyond → anchored_by (take asked.riders (anchor (replicate 1024 0) (retained_read t))) ≡ (λ v. member v (retained_read t))
+  anchors-lent : asked.riders ≤ 1024 → asked.beyond ≡ None → anchored_by (take asked.riders (anchor (replicate 1024 0) (retained_read t))) ≡ (λ v. member v (retained_read t))
   anchors-lent small within =
       let n = asked.riders in
       let vs = retained_read t in
@@ -66,7 +66,7 @@ module _ (t : List ℕ) {asked : Summary} (e : reading_of t ≡ Read asked) wher
       let sum = (accepted t asked e).summary in
       let count : asked.riders ≡ length (rider_lines_read t).lists = riders-count t asked e in
       let first : asked.beyond ≡ first_beyond n vs = ap (λ (x : Summary). x.beyond) sum ∙ ap (λ (k : ℕ). first_beyond k vs) (sym count) in
-      let all : (w : ℕ) → In w vs → w < n = beyond-none n vs (numbers-small t asked e).2 (omega arith) in
+      let all : (w : ℕ) → In w vs → w < n = beyond-none n vs (sym first ∙ within) in
       ap anchored_by (anchored-lent 1024 n vs small) ∙ fun_ext (λ v. split (ltb v n)
       (λ p. ap (λ z. eqb z 1) (tabulate-at (λ w. bit (member w vs)) n v (ltb→lt v n p)) ∙ bit-one (member v vs))
       (λ p.

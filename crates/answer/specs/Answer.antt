@@ -1,5 +1,5 @@
 -- Document 01, "Rounds and the answer sheet" and "Who can cause a refusal": the text-to-sheet call.
-use Rattle.std.specs.Prelude.{Bool, cond, List, ℕ, ◌+◌, ◌*◌, length, ltb}
+use Rattle.std.specs.Prelude.{Bool, cond, List, ℕ, ◌+◌, ◌*◌, length, ltb, Option, Some, None, Ok, Err}
 use Rattle.finite.specs.Search.{member}
 use Rattle.table.specs.Table.{vertices, check_of}
 use Rattle.table.specs.Guard.{refused, answer, past}
@@ -8,22 +8,26 @@ use Rattle.table.specs.Guard.{clear}
 use Rattle.pool.specs.Input.{graph_of}
 use Rattle.text.specs.Text.{reading_of, starts_read, links_read, retained_read}
 use Rattle.text.specs.declared.read.Summary.{Summary}
-use Rattle.text.specs.declared.read.Reading.TheVariants.{Read, Departs}
 use Rattle.sheet.specs.Line.{sheet_of, refused_line}
 use Rattle.rounds.specs.Rounds.{rounds_of}
 use Rattle.answer.specs.declared.call.Answered.{Answered}
-use Rattle.answer.specs.declared.call.Answered.TheVariants.{Sheet, Refused}
+use Rattle.answer.specs.declared.call.Answered.TheVariants.{Sheet, Err}
 
 -- the bytes of a sheet: 48 and one a vertex in each line
 abbrev pub size_of : Summary → ℕ
 size_of asked = asked.rounds * (48 + asked.riders)
 
--- 11 for more than 60 rounds, 12 for less room than the sheet needs, 15 for a retained number of n or more (65,536 where there is none)
+-- 15 for a retained number of n or more
+abbrev pub beyond_of : Option ℕ → Guard
+beyond_of (Some beyond) = refused 15 beyond
+beyond_of None = clear
+
+-- 11 for more than 60 rounds, 12 for less room than the sheet needs, 15 for a retained number of n or more
 abbrev pub room_of : Summary → ℕ → Guard
 room_of asked room =
     cond (ltb 60 asked.rounds) (refused 11 0)
     (cond (ltb room (size_of asked)) (refused 12 0)
-    (cond (ltb asked.beyond 65536) (refused 15 asked.beyond) clear))
+    (beyond_of asked.beyond))
 
 -- 2 and 3 for the numbers of vertices and links read, 5 to 8 for the table, then the rest
 unfoldable pub asked_of : Summary → List ℕ → List ℕ → ℕ → Guard
@@ -35,15 +39,15 @@ asked_of asked s l room =
 -- what the call refuses of a text and so much room: 17, 18, then the rest
 unfoldable pub text_of : List ℕ → ℕ → Guard
 text_of t room = cond (ltb 65536 (length t)) (refused 17 0) (elim (reading_of t) [
-  | Read asked ↦ asked_of asked (starts_read t) (links_read t) room
-  | Departs line ↦ refused 18 line
+  | Ok asked ↦ asked_of asked (starts_read t) (links_read t) room
+  | Err line ↦ refused 18 line
 ])
 
 -- the rounds that a text asks for
 unfoldable pub rounds_asked : List ℕ → ℕ
 rounds_asked t = elim (reading_of t) [
-  | Read asked ↦ asked.rounds
-  | Departs line ↦ 0
+  | Ok asked ↦ asked.rounds
+  | Err line ↦ 0
 ]
 
 -- the sheet of some rounds on a table
@@ -56,9 +60,9 @@ sheet_of_text t = rounds_sheet (starts_read t) (links_read t) (λ v. member v (r
 
 -- the answer of the call: the length of the sheet, or the refusal
 unfoldable pub answer_of : List ℕ → ℕ → Answered
-answer_of t room = answer (text_of t room) (Sheet (length (sheet_of_text t))) Refused
+answer_of t room = answer (text_of t room) (Sheet (length (sheet_of_text t))) Err
 
 -- what the program prints for an answer: the sheet, or the line of the refusal
 abbrev pub printed : Answered → List ℕ → List ℕ
 printed (Sheet size) sheet = sheet
-printed (Refused x) sheet = refused_line x.number x.place
+printed (Err x) sheet = refused_line x.number x.place

@@ -22,8 +22,8 @@ fn test_room(asked: text::Summary, room: usize) -> table::Guard
     if room < asked.rounds as usize * (48 + asked.riders as usize) {
         return table::refused(12, 0);
     }
-    if asked.beyond < text::NONE {
-        return table::refused(15, asked.beyond);
+    if let Some(beyond) = asked.beyond {
+        return table::refused(15, beyond as usize);
     }
     table::Guard::Passed
 }
@@ -101,10 +101,10 @@ pub fn text_to_sheet(text: &[u8], sheet: &mut [u8]) -> Answered
     let mut anchored = [0u8; 1024];
     let reading = text::read_text(text, &mut starts, &mut links, &mut anchored);
     match reading {
-        text::Reading::Departs(line) => Answered::Refused(table::Refusal {
+        Err(line) => Answered::Refused(table::Refusal {
             number: 18,
             place: line,
         }),
-        text::Reading::Read(asked) => answer_read(asked, &starts, &links, &anchored, sheet),
+        Ok(asked) => answer_read(asked, &starts, &links, &anchored, sheet),
     }
 }

@@ -31,16 +31,16 @@ read-text-requires c κs = search rules
 enum-known-reading : tie.Need-enum_known-reading
 enum-known-reading c = search rules
 
-enum-known-reading-2 : tie.Need-enum_known-reading-in-Read-1
+enum-known-reading-2 : tie.Need-enum_known-reading-in-Ok-1
 enum-known-reading-2 c = search rules
 
 slice-aggregate-answer-read : tie.Need-slice_bounds-answer_read-end
 slice-aggregate-answer-read c = search rules
 
-slice-aggregate-answer-read-2 : tie.Need-slice_bounds-answer_read-end-in-Read
+slice-aggregate-answer-read-2 : tie.Need-slice_bounds-answer_read-end-in-Ok
 slice-aggregate-answer-read-2 c = search rules
 
-slice-aggregate-answer-read-3 : tie.Need-slice_bounds-answer_read-end-in-Read-2
+slice-aggregate-answer-read-3 : tie.Need-slice_bounds-answer_read-end-in-Ok-2
 slice-aggregate-answer-read-3 c = search rules
 
 answer-read-requires : tie.Need-answer_read-requires
@@ -54,21 +54,21 @@ answer-read-requires c κs =
       ),
     )
 
-returns-2 : tie.Need-returns-in-Departs
+returns-2 : tie.Need-returns-in-Err
 unfolding answer_of
 returns-2 c =
-    let departs = sym c.read_text-reading.ensures.0 ∙ c.in-Departs.is in
+    let departs = sym c.read_text-reading.ensures.0 ∙ c.in-Err.is in
     let refused = text_departs _ _ c.if-text-gt65536.false departs in
     (sym (handed _ _ refused), sym (handed _ _ refused))
 
 same_length : tie.Need-shape_of-sheet
 same_length c = search rules
 
-returns-3 : tie.Need-returns-in-Read
+returns-3 : tie.Need-returns-in-Ok
 unfolding answer_of
 returns-3 c =
     let arrays = c.read_text-reading.ensures.1 in
-    let whole = sym c.read_text-reading.ensures.0 ∙ c.in-Read.is in
+    let whole = sym c.read_text-reading.ensures.0 ∙ c.in-Ok.is in
     let short = c.if-text-gt65536.false in
     let answered = c.answer_read.ensures in
     let bytes = c.args.sheet.now in (
