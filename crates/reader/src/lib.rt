@@ -2,7 +2,7 @@
 
 #![tactic(auto)]
 
-ghost use Rattle.std.specs.Prelude.{◌≡◌, ◌+◌, None, IsNone, MatchOption, option_map, slice_get, eqb, length, drop};
+ghost use Rattle.std.specs.Prelude.{◌≡◌, ◌+◌, IsNone, MatchOption, option_map, slice_get, eqb, length, drop};
 ghost use Rattle.reader.specs.Number.{digit_found, number_at, placed};
 ghost use Rattle.reader.specs.Form.{skip_at, form_at};
 
