@@ -1,18 +1,32 @@
 -- How passes add to marks, place by place. Assumes nothing.
-use mathlib.Core.Path.{◌≡◌, sym, ap, ◌∙◌}
+use mathlib.Core.Path.{◌≡◌, refl, sym, ap, ◌∙◌}
 use mathlib.Core.Logic.{⊎_elim}
 use mathlib.Core.Bool.{Bool, true, false, cond, ◌&&◌, ◌||◌, or-false, or-true, or_assoc, and-false, and-true, and-or_distrib_left}
-use mathlib.Core.List.{List}
+use mathlib.Core.List.{List, [], ◌∷◌}
 use Prim.Native.Nat.{ℕ, ◌+◌, ◌≤◌, ◌<◌}
 use native.Mathlib.Omega.{arith}
 use lib.ListN.{length, get_or, set, length-set}
 use native.Mathlib.Nat.{eq-or-lt_of_le}
 use lib.Dec.{ltb, eqb, nltb→le, eqb→eq}
 use borrow.Author.Tests.{ne_eqb, lt-ltb, le-ltb, ltb-true}
+use Rattle.std.specs.List.{list_any, count_by}
+use Rattle.std.proofs.lemmas.List.Recursion.{is_count_by}
+use Rattle.finite.specs.Count.{count}
+use Rattle.finite.specs.Search.{any}
 use Rattle.finite.proofs.Tests.{split, same, true_of, false_of, of_true, neqb}
 use Rattle.finite.proofs.Count.{set_reads}
 use Rattle.finite.proofs.Search.{any-below-zero, any-below-more}
 use Rattle.stale.specs.Marks.{marked, Added, up_to, carried, marking}
+
+-- std's words for tests over a list say the same
+pub any_is : (p : ℕ → Bool) (l : List ℕ) → list_any p l ≡ any p l
+unfolding any
+any_is p [] = refl
+any_is p (w ∷ ws) = ap (λ z. p w || z) (any_is p ws)
+
+pub count_is : (p : ℕ → Bool) (l : List ℕ) → count_by p l ≡ count p l
+unfolding count
+count_is p l = sym (is_count_by (count p) p refl (λ x xs. split (p x) (λ t. rw (true_of (p x) t)) (λ t. rw (false_of (p x) t) (omega arith))) l)
 
 -- one more place marked
 chosen : (b : Bool) (x : ℕ) → eqb (cond b 1 x) 1 ≡ eqb x 1 || b

@@ -4,7 +4,7 @@ use mathlib.Core.Bool.{Bool, true, false, not, ◌&&◌, ◌||◌, or-false, or-
 use mathlib.Core.List.{List}
 use Prim.Native.Nat.{ℕ, ◌≤◌, ◌<◌}
 use native.Mathlib.Omega.{arith}
-use lib.ListN.{get_or, replicate}
+use lib.ListN.{length, get_or, replicate}
 use lib.Dec.{T, eqb, eqb→eq}
 use borrow.Author.Tests.{ne_eqb, lt-ltb}
 use Rattle.finite.specs.Count.{In, below}
@@ -88,6 +88,10 @@ above_means s l table A lev levels v h a =
 pub above-few : (s l : List ℕ) → SoundTable s l → (lev : List ℕ) (v : ℕ) → v < vertices s → above_by s l lev v ≤ 1024
 above-few s l table lev v h =
     omega (arith, count-length (higher_by lev v) (neighbors s l v), neighbors-few s l table v h, table.small)
+
+-- and all of them fit the columns
+pub near_part : {s l : List ℕ} → SoundTable s l → (v : ℕ) → v < vertices s → (part : List ℕ) → part ≡ neighbors s l v → (i d : ℕ) → i < length part → get_or part i d < 1024
+near_part {s} {l} table v h part e i d b = omega (arith, table.small, table.range v (get_or part i d) h (subst (In (get_or part i d)) e (in_at part i d b)))
 
 -- so the columns are the defined ones where levels, layers and components are, and the numbers above are counted by the levels
 pub columns-defined : {s l : List ℕ} {A : ℕ → Bool} {x : Columns} → SoundTable s l → Holds x.level (vertices s) (level (graph_of s l) A) → Holds x.layer (vertices s) (layer (graph_of s l) A)

@@ -1,7 +1,7 @@
 // The rows that an event makes stale, found by columns and marks: a byte for each place, 1 where marked. Each pass adds to its marks.
 #![tactic(auto)]
 
-ghost use Rattle.std.specs.Prelude.{◌≡◌, ◌≤◌, ◌<◌, length};
+ghost use Rattle.std.specs.Prelude.{◌≡◌, ◌≤◌, ◌<◌};
 ghost use Rattle.table.specs.Table.{vertices, SoundTable};
 ghost use Rattle.pool.specs.Arrays.{Holds};
 ghost use Rattle.stale.specs.Marks.{Added, up_to, differs, carried, marking, inside_by, looks_through};
@@ -24,41 +24,31 @@ fn count_above(starts: &[u16], links: &[u16], level: &[u16; 1024], v: usize) -> 
     ensures { result ≡ above_by starts.now links.now level.now v }
 {
     let part = table::neighbors(starts, links, v);
-    let mut count: usize = 0;
-    let mut i: usize = 0;
-    while i < part.len() {
-        count += pool::pair::is_higher(level, part[i] as usize, v) as usize;
-        i += 1;
-    }
-    count
+    part.iter()
+        .filter(|w| pool::pair::is_higher(level, usize::from(**w), v))
+        .count()
 }
 
 // Fills the column of the numbers above, from the levels. An anchored vertex has level 65,535, so it stands above every other.
 pub fn fill_above(starts: &[u16], links: &[u16], level: &[u16; 1024], above: &mut [u16; 1024])
     requires sound_table { SoundTable starts.now links.now }
-    requires above_len { length above.old ≡ 1024 }
     ensures { Holds above.new (vertices starts.now) (above_by starts.now links.now level.now) }
 {
     let n = starts.len() - 1;
-    let mut v: usize = 0;
-    while v < n {
+    for v in 0..n {
         above[v] = count_above(starts, links, level, v) as u16;
-        v += 1;
     }
 }
 
 // Marks the places below n where two columns differ.
 fn mark_differing(n: usize, before: &[u16; 1024], after: &[u16; 1024], marks: &mut [u8; 1024])
     requires n_bound { n ≤ 1024 }
-    requires marks_len { length marks.old ≡ 1024 }
     ensures { Added (up_to (differs before.now after.now) n) marks.old marks.new }
 {
-    let mut v: usize = 0;
-    while v < n {
+    for v in 0..n {
         if before[v] != after[v] {
             marks[v] = 1;
         }
-        v += 1;
     }
 }
 
@@ -66,8 +56,9 @@ fn mark_differing(n: usize, before: &[u16; 1024], after: &[u16; 1024], marks: &m
 fn mark(changed: &mut [u8; 1024], number: u16)
     ensures { changed.new ≡ marking changed.old number }
 {
-    let c = number as usize;
-    if c < 1024 {
+    // by index: of a write through `get_mut` std does not say what the array is after it
+    let c = usize::from(number);
+    if c < changed.len() {
         changed[c] = 1;
     }
 }
@@ -75,15 +66,12 @@ fn mark(changed: &mut [u8; 1024], number: u16)
 // Marks the component numbers of the unsteady vertices below n.
 fn mark_numbers(n: usize, component: &[u16; 1024], unsteady: &[u8; 1024], changed: &mut [u8; 1024])
     requires n_bound { n ≤ 1024 }
-    requires changed_len { length changed.old ≡ 1024 }
     ensures { Added (up_to (carried component.now unsteady.now n) 1024) changed.old changed.new }
 {
-    let mut v: usize = 0;
-    while v < n {
+    for v in 0..n {
         if unsteady[v] == 1 {
             mark(changed, component[v]);
         }
-        v += 1;
     }
 }
 
@@ -91,82 +79,52 @@ fn mark_numbers(n: usize, component: &[u16; 1024], unsteady: &[u8; 1024], change
 fn is_marked(changed: &[u8; 1024], number: u16) -> bool
     ensures { result ≡ up_to (marked_in changed.now) 1024 number }
 {
-    let c = number as usize;
-    if c < 1024 {
-        return changed[c] == 1;
-    }
-    false
+    changed.get(usize::from(number)).is_some_and(|m| *m == 1)
 }
 
-// Whether v leads u into a marked component: its number is marked, which is asked first as most are not, and its pair greater.
-fn looks_through(
-    level: &[u16; 1024],
-    layer: &[u16; 1024],
-    component: &[u16; 1024],
-    changed: &[u8; 1024],
-    u: usize,
-    v: usize,
-) -> bool
-    requires u_bound { u < 1024 }
-    requires v_bound { v < 1024 }
-    ensures { result ≡ looks_through level.now layer.now component.now changed.now u v }
-{
-    if !is_marked(changed, component[v]) {
-        return false;
+impl Columns {
+    // Whether v leads u into a marked component: its number is marked, which is asked first as most are not, and its pair greater.
+    fn looks_through(&self, changed: &[u8; 1024], u: usize, v: usize) -> bool
+        requires u_bound { u < 1024 }
+        requires v_bound { v < 1024 }
+        ensures { result ≡ looks_through self.now.level self.now.layer self.now.component changed.now u v }
+    {
+        is_marked(changed, self.component[v])
+            && pool::pair::is_above(&self.level, &self.layer, v, u)
     }
-    pool::pair::is_above(level, layer, v, u)
-}
 
-// Whether u looks into a component whose number is marked; an anchored vertex, which has no number, does not.
-fn looks(
-    starts: &[u16],
-    links: &[u16],
-    level: &[u16; 1024],
-    layer: &[u16; 1024],
-    component: &[u16; 1024],
-    changed: &[u8; 1024],
-    u: usize,
-) -> bool
-    requires sound_table { SoundTable starts.now links.now }
-    requires u_bound { u < vertices starts.now }
-    ensures { result ≡ looks_by starts.now links.now level.now layer.now component.now changed.now u }
-{
-    if 1023 < component[u] {
-        return false;
-    }
-    let part = table::neighbors(starts, links, u);
-    let mut i: usize = 0;
-    while i < part.len() {
-        if looks_through(level, layer, component, changed, u, part[i] as usize) {
-            return true;
+    // Whether u looks into a component whose number is marked; an anchored vertex, which has no number, does not.
+    fn looks(&self, starts: &[u16], links: &[u16], changed: &[u8; 1024], u: usize) -> bool
+        requires sound_table { SoundTable starts.now links.now }
+        requires u_bound { u < vertices starts.now }
+        ensures { result ≡ looks_by starts.now links.now self.now.level self.now.layer self.now.component changed.now u }
+    {
+        if 1023 < self.component[u] {
+            return false;
         }
-        i += 1;
+        let part = table::neighbors(starts, links, u);
+        part.iter()
+            .any(|v| self.looks_through(changed, u, usize::from(*v)))
     }
-    false
-}
 
-// Marks the vertices that look into a component whose number is marked.
-fn mark_lookers(
-    starts: &[u16],
-    links: &[u16],
-    level: &[u16; 1024],
-    layer: &[u16; 1024],
-    component: &[u16; 1024],
-    changed: &[u8; 1024],
-    stale: &mut [u8; 1024],
-)
-    requires sound_table { SoundTable starts.now links.now }
-    requires stale_len { length stale.old ≡ 1024 }
-    ensures { let looking = looks_by starts.now links.now level.now layer.now component.now changed.now in
-        Added (up_to looking (vertices starts.now)) stale.old stale.new }
-{
-    let n = starts.len() - 1;
-    let mut u: usize = 0;
-    while u < n {
-        if looks(starts, links, level, layer, component, changed, u) {
-            stale[u] = 1;
+    // Marks the vertices that look into a component whose number is marked.
+    fn mark_lookers(
+        &self,
+        starts: &[u16],
+        links: &[u16],
+        changed: &[u8; 1024],
+        stale: &mut [u8; 1024],
+    )
+        requires sound_table { SoundTable starts.now links.now }
+        ensures { let looking = looks_by starts.now links.now self.now.level self.now.layer self.now.component changed.now in
+            Added (up_to looking (vertices starts.now)) stale.old stale.new }
+    {
+        let n = starts.len() - 1;
+        for u in 0..n {
+            if self.looks(starts, links, changed, u) {
+                stale[u] = 1;
+            }
         }
-        u += 1;
     }
 }
 
@@ -174,7 +132,6 @@ fn mark_lookers(
 fn mark_inside(component: &[u16; 1024], a: usize, b: usize, bound: &mut [u8; 1024])
     requires a_bound { a < 1024 }
     requires b_bound { b < 1024 }
-    requires bound_len { length bound.old ≡ 1024 }
     ensures { Added (inside_by component.now a b) bound.old bound.new }
 {
     if component[a] == component[b] {
@@ -186,8 +143,8 @@ fn mark_inside(component: &[u16; 1024], a: usize, b: usize, bound: &mut [u8; 102
 // after, `fresh`: as stale the rows of the two and of those whose bare level changed, and a as bound if the edge is inside a component before or after.
 pub fn mark_edge(
     n: usize,
-    before: Columns,
-    after: Columns,
+    before: &Columns,
+    after: &Columns,
     bare: &[u16; 1024],
     fresh: &[u16; 1024],
     a: usize,
@@ -198,7 +155,7 @@ pub fn mark_edge(
     requires n_bound { n ≤ 1024 }
     requires a_bound { a < 1024 }
     requires b_bound { b < 1024 }
-    ensures { Brought n before after bare.now fresh.now a b bound.new stale.new }
+    ensures { Brought n before.now after.now bare.now fresh.now a b bound.new stale.new }
 {
     *bound = [0; 1024];
     mark_inside(&before.component, a, b, bound);
@@ -215,39 +172,23 @@ pub fn mark_edge(
 pub fn mark_stale(
     starts: &[u16],
     links: &[u16],
-    before: Columns,
-    after: Columns,
+    before: &Columns,
+    after: &Columns,
     bound: &[u8; 1024],
     stale: &mut [u8; 1024],
 )
     requires sound_table { SoundTable starts.now links.now }
-    requires bound_len { length bound.now ≡ 1024 }
-    requires stale_len { length stale.old ≡ 1024 }
-    ensures { Finds starts.now links.now before after bound.now stale.old stale.new }
+    ensures { Finds starts.now links.now before.now after.now bound.now stale.old stale.new }
 {
     let n = starts.len() - 1;
-    let old_level = before.level;
-    let old_layer = before.layer;
-    let old_component = before.component;
-    let level = after.level;
-    let layer = after.layer;
-    let component = after.component;
     let mut unsteady = *bound;
-    mark_differing(n, &old_level, &level, &mut unsteady);
-    mark_differing(n, &old_component, &component, &mut unsteady);
+    mark_differing(n, &before.level, &after.level, &mut unsteady);
+    mark_differing(n, &before.component, &after.component, &mut unsteady);
     mark_differing(n, &before.above, &after.above, &mut unsteady);
     let mut changed = [0u8; 1024];
-    mark_numbers(n, &old_component, &unsteady, &mut changed);
-    mark_numbers(n, &component, &unsteady, &mut changed);
-    mark_differing(n, &old_level, &level, stale);
-    mark_lookers(
-        starts,
-        links,
-        &old_level,
-        &old_layer,
-        &old_component,
-        &changed,
-        stale,
-    );
-    mark_lookers(starts, links, &level, &layer, &component, &changed, stale);
+    mark_numbers(n, &before.component, &unsteady, &mut changed);
+    mark_numbers(n, &after.component, &unsteady, &mut changed);
+    mark_differing(n, &before.level, &after.level, stale);
+    before.mark_lookers(starts, links, &changed, stale);
+    after.mark_lookers(starts, links, &changed, stale);
 }
