@@ -1,3 +1,2 @@
-pub mod Casts
 pub mod Records
 pub mod Nets

@@ -1,13 +1,14 @@
 -- The record at the start: bytes that read alike, bare levels, and the plain session without requests. Assumes nothing.
-use mathlib.Core.Path.{◌≡◌, ap, ◌∙◌, fun_ext}
+use mathlib.Core.Path.{◌≡◌, refl, ap, subst, ◌∙◌, fun_ext}
 use mathlib.Core.Bool.{Bool}
-use mathlib.Core.List.{List}
+use mathlib.Core.List.{List, ◌++◌}
 use Prim.Native.Nat.{ℕ, ◌≤◌}
 use native.Mathlib.Omega.{arith}
-use lib.ListN.{length, get_or, replicate, length-replicate}
+use Rattle.std.proofs.lemmas.Grind.{common_steps}
+use lib.ListN.{length, get_or, drop, replicate, length-replicate}
 use lib.Dec.{eqb}
 use Rattle.finite.specs.Sets.{has}
-use Rattle.finite.proofs.Count.{count-below-le, zeros-at}
+use Rattle.finite.proofs.Count.{count-below-le, tabulate-self, copied_in, zeros-at}
 use Rattle.table.specs.Table.{vertices, SoundTable}
 use Rattle.anchored.specs.Graph.{Graph}
 use Rattle.anchored.specs.Core.{level}
@@ -16,7 +17,7 @@ use Rattle.anchored.specs.Yield.{nobody, bare_level}
 use Rattle.anchored.specs.Session.{after}
 use Rattle.pool.specs.Input.{graph_of, anchored_by, Admitted}
 use Rattle.pool.specs.Arrays.{Holds}
-use Rattle.records.specs.Record.{Stands}
+use Rattle.records.specs.Record.{Stands, Copied}
 use Rattle.records.specs.declared.Record.{Record}
 
 -- bytes that read alike anchor alike, and are admitted alike
@@ -25,6 +26,13 @@ anchored-same a b e = fun_ext (λ v. ap (λ z. eqb z 1) (e v))
 
 pub admitted-same : (s l a b : List ℕ) → ((v : ℕ) → get_or b v 0 ≡ get_or a v 0) → vertices s ≤ length b → Admitted s l a → Admitted s l b
 admitted-same s l a b e long h = record { table = h.table; long = long; bytes = λ v k. rw (e v) (h.bytes v k) }
+
+-- the array that holds the bytes, with zeros after them
+pub padded : (xs : List ℕ) → length xs ≤ 1024 → Copied xs (xs ++ drop (length xs) (replicate 1024 0))
+padded xs h = record {
+  long = grind (arith, common_steps);
+  same = λ v. subst (λ ys. get_or (ys ++ drop (length xs) (replicate 1024 0)) v 0 ≡ get_or xs v 0) (tabulate-self xs (length xs) refl) (copied_in xs 1024 v);
+}
 
 -- bytes all 0 are admitted with every sound table, and anchor nobody
 pub nobody-admitted : (s l : List ℕ) → SoundTable s l → Admitted s l (replicate 1024 0)

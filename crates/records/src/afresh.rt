@@ -17,25 +17,22 @@ pub fn refresh(starts: &[u16], links: &[u16], anchored: &[u8; 1024]) -> Columns
     requires { Admitted starts.now links.now anchored.now }
     ensures { ColumnsOf (graph_of starts.now links.now) (anchored_by anchored.now) result }
 {
-    let mut level = [0u16; 1024];
-    let mut layer = [0u16; 1024];
-    let mut component = [0u16; 1024];
+    let mut columns = Columns {
+        level: [0; 1024],
+        layer: [0; 1024],
+        component: [0; 1024],
+        above: [0; 1024],
+    };
     level::work::fill(
         starts,
         links,
         anchored,
-        &mut level,
-        &mut layer,
-        &mut component,
+        &mut columns.level,
+        &mut columns.layer,
+        &mut columns.component,
     );
-    let mut above = [0u16; 1024];
-    stale::fill_above(starts, links, &level, &mut above);
-    Columns {
-        level,
-        layer,
-        component,
-        above,
-    }
+    stale::fill_above(starts, links, &columns.level, &mut columns.above);
+    columns
 }
 
 // Bare levels, those with nobody anchored, into the first n places.
@@ -49,7 +46,7 @@ pub fn fill_bare(starts: &[u16], links: &[u16], bare: &mut [u16; 1024])
 }
 
 // The counts of a row.
-#[derive(Drop)]
+#[derive(Clone, Copy)]
 pub struct Counts {
     pub followers: u16,
     pub reached: u16,
@@ -66,8 +63,8 @@ pub fn count_row(
     reaching: bool,
 ) -> Counts
     requires admitted { Admitted starts.now links.now anchored.now }
-    requires holds { Holds level.now (vertices starts.now) (level_of (graph_of starts.now links.now) (anchored_by anchored.now)) }
-    requires holds_2 { Holds layer.now (vertices starts.now) (layer_of (graph_of starts.now links.now) (anchored_by anchored.now)) }
+    requires levels { Holds level.now (vertices starts.now) (level_of (graph_of starts.now links.now) (anchored_by anchored.now)) }
+    requires layers { Holds layer.now (vertices starts.now) (layer_of (graph_of starts.now links.now) (anchored_by anchored.now)) }
     requires u_bound { u < vertices starts.now }
     ensures followers { result.followers ≡ follower_count (graph_of starts.now links.now) (anchored_by anchored.now) u }
     ensures reached { result.reached ≡ row_reached reaching (graph_of starts.now links.now) (anchored_by anchored.now) u }
@@ -80,15 +77,8 @@ pub fn count_row(
     }
     let mut marks = [0u8; 1024];
     let found = search::search(starts, links, anchored, level, layer, u, &mut marks);
-    let followers = found.lifted as u16;
-    if reaching {
-        return Counts {
-            followers,
-            reached: found.reached as u16,
-        };
-    }
     Counts {
-        followers,
-        reached: 0,
+        followers: found.lifted as u16,
+        reached: if reaching { found.reached as u16 } else { 0 },
     }
 }

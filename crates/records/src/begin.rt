@@ -1,26 +1,23 @@
 // The record at the start.
 ghost use Rattle.std.specs.Prelude.{◌≡◌, [], ◌≤◌, length};
 ghost use Rattle.table.specs.Table.{vertices};
-ghost use Rattle.anchored.specs.Core.{level as level_of};
-ghost use Rattle.anchored.specs.Core.{layer as layer_of};
 ghost use Rattle.anchored.specs.Followers.{follower_count};
 ghost use Rattle.pool.specs.Input.{graph_of, anchored_by, Admitted};
 ghost use Rattle.pool.specs.Arrays.{Holds};
+ghost use Rattle.stale.specs.Columns.{ColumnsOf};
 ghost use Rattle.records.specs.Record.{row_reached, Keeps, session_of, Copied};
 
 use super::Record;
+use stale::Columns;
 
 // The given bytes, with zeros after them.
-fn pad(given: &[u8], anchored: &mut [u8; 1024])
+fn pad(given: &[u8]) -> [u8; 1024]
     requires { length given.now ≤ 1024 }
-    ensures { Copied given.now anchored.new }
+    ensures { Copied given.now result }
 {
-    *anchored = [0; 1024];
-    let mut v: usize = 0;
-    while v < given.len() {
-        anchored[v] = given[v];
-        v += 1;
-    }
+    let mut anchored = [0; 1024];
+    anchored[..given.len()].copy_from_slice(given);
+    anchored
 }
 
 // The counts of every row, into the first n places.
@@ -28,29 +25,31 @@ fn count_rows(
     starts: &[u16],
     links: &[u16],
     anchored: &[u8; 1024],
-    level: &[u16; 1024],
-    layer: &[u16; 1024],
+    columns: &Columns,
     reaching: bool,
     followers: &mut [u16; 1024],
     reached: &mut [u16; 1024],
 )
     requires admitted { Admitted starts.now links.now anchored.now }
-    requires holds { Holds level.now (vertices starts.now) (level_of (graph_of starts.now links.now) (anchored_by anchored.now)) }
-    requires holds_2 { Holds layer.now (vertices starts.now) (layer_of (graph_of starts.now links.now) (anchored_by anchored.now)) }
-    requires followers_len { length followers.old ≡ 1024 }
-    requires reached_len { length reached.old ≡ 1024 }
+    requires columns_of { ColumnsOf (graph_of starts.now links.now) (anchored_by anchored.now) columns.now }
     ensures followers { let counts = follower_count (graph_of starts.now links.now) (anchored_by anchored.now) in
-        (length followers.new ≡ 1024) × Holds followers.new (vertices starts.now) counts }
+        Holds followers.new (vertices starts.now) counts }
     ensures reached { let counts = row_reached reaching (graph_of starts.now links.now) (anchored_by anchored.now) in
-        (length reached.new ≡ 1024) × Holds reached.new (vertices starts.now) counts }
+        Holds reached.new (vertices starts.now) counts }
 {
     let n = starts.len() - 1;
-    let mut v: usize = 0;
-    while v < n {
-        let counts = super::afresh::count_row(starts, links, anchored, level, layer, v, reaching);
+    for v in 0..n {
+        let counts = super::afresh::count_row(
+            starts,
+            links,
+            anchored,
+            &columns.level,
+            &columns.layer,
+            v,
+            reaching,
+        );
         followers[v] = counts.followers;
         reached[v] = counts.reached;
-        v += 1;
     }
 }
 
@@ -61,21 +60,17 @@ pub fn begin(starts: &[u16], links: &[u16], given: &[u8], reaching: bool) -> Rec
     ensures keeps { Keeps starts.now links.now result (session_of starts.now links.now given.now [] 0) }
     ensures reaching { result.reaching ≡ reaching }
 {
-    let mut anchored = [0u8; 1024];
-    pad(given, &mut anchored);
+    let anchored = pad(given);
     let columns = super::afresh::refresh(starts, links, &anchored);
-    let level = columns.level;
-    let layer = columns.layer;
-    let mut bare = [0u16; 1024];
+    let mut bare = [0; 1024];
     super::afresh::fill_bare(starts, links, &mut bare);
-    let mut followers = [0u16; 1024];
-    let mut reached = [0u16; 1024];
+    let mut followers = [0; 1024];
+    let mut reached = [0; 1024];
     count_rows(
         starts,
         links,
         &anchored,
-        &level,
-        &layer,
+        &columns,
         reaching,
         &mut followers,
         &mut reached,

@@ -11,25 +11,23 @@ pub fn net_yield(anchored: u8, followers: u16, level: u16, bare: u16) -> i16
     ensures { result ≡ yield_by anchored followers level bare }
 {
     if anchored == 1 {
-        return -32768;
+        return i16::MIN;
     }
     followers as i16 - (level - bare) as i16
 }
 
 // The net yields of as many rows as there are places.
-pub fn write_yields(kept: Record, yields: &mut [i16])
+pub fn write_yields(kept: &Record, yields: &mut [i16])
     requires yields_len_bound { length yields.old ≤ 1024 }
-    requires smalls { Smalls kept (length yields.old) }
-    ensures { yields.new ≡ tabulate (yield_at kept) (length yields.old) }
+    requires smalls { Smalls kept.now (length yields.old) }
+    ensures { yields.new ≡ tabulate (yield_at kept.now) (length yields.old) }
 {
-    let anchored = kept.anchored;
-    let followers = kept.followers;
-    let level = kept.columns.level;
-    let bare = kept.bare;
-    let mut v: usize = 0;
-    while v < yields.len() {
-        let y = net_yield(anchored[v], followers[v], level[v], bare[v]);
-        yields[v] = y;
-        v += 1;
+    for (v, place) in yields.iter_mut().enumerate() {
+        *place = net_yield(
+            kept.anchored[v],
+            kept.followers[v],
+            kept.columns.level[v],
+            kept.bare[v],
+        );
     }
 }
