@@ -1,8 +1,7 @@
 // Worked afresh: the columns of a table with anchored vertices, its bare levels, and the counts of a row.
 ghost use Rattle.std.specs.Prelude.{◌≡◌, ◌<◌};
 ghost use Rattle.table.specs.Table.{vertices, SoundTable};
-ghost use Rattle.anchored.specs.Core.{level as level_of};
-ghost use Rattle.anchored.specs.Core.{layer as layer_of};
+ghost use Rattle.anchored.specs.Core.{level as level_of, layer as layer_of};
 ghost use Rattle.anchored.specs.Followers.{follower_count};
 ghost use Rattle.anchored.specs.Yield.{bare_level};
 ghost use Rattle.pool.specs.Input.{graph_of, anchored_by, Admitted};
@@ -52,7 +51,8 @@ pub struct Counts {
     pub reached: u16,
 }
 
-// How many follow u, and, where reached counts are kept, how many the search from u reaches; 65,535 for an anchored vertex.
+// How many follow u, and, where reached counts are kept, how many the search from u reaches; 65,535 for an anchored vertex. Where none are kept
+// the count is 0 and no Option: it goes into a record's array, from which it is copied out.
 pub fn count_row(
     starts: &[u16],
     links: &[u16],

@@ -32,10 +32,8 @@ fn count_rows(
 )
     requires admitted { Admitted starts.now links.now anchored.now }
     requires columns_of { ColumnsOf (graph_of starts.now links.now) (anchored_by anchored.now) columns.now }
-    ensures followers { let counts = follower_count (graph_of starts.now links.now) (anchored_by anchored.now) in
-        Holds followers.new (vertices starts.now) counts }
-    ensures reached { let counts = row_reached reaching (graph_of starts.now links.now) (anchored_by anchored.now) in
-        Holds reached.new (vertices starts.now) counts }
+    ensures followers { Holds followers.new (vertices starts.now) (follower_count (graph_of starts.now links.now) (anchored_by anchored.now)) }
+    ensures reached { Holds reached.new (vertices starts.now) (row_reached reaching (graph_of starts.now links.now) (anchored_by anchored.now)) }
 {
     let n = starts.len() - 1;
     for v in 0..n {

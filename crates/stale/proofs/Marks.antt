@@ -1,19 +1,17 @@
 -- How passes add to marks, place by place. Assumes nothing.
 use mathlib.Core.Path.{◌≡◌, refl, sym, ap, ◌∙◌}
-use mathlib.Core.Logic.{⊎_elim}
-use mathlib.Core.Bool.{Bool, true, false, cond, ◌&&◌, ◌||◌, or-false, or-true, or_assoc, and-false, and-true, and-or_distrib_left}
+use mathlib.Core.Bool.{Bool, true, false, cond, ◌&&◌, ◌||◌, or-false, or-true, or_assoc, and-false, and-or_distrib_left}
 use mathlib.Core.List.{List, [], ◌∷◌}
-use Prim.Native.Nat.{ℕ, ◌+◌, ◌≤◌, ◌<◌}
+use Prim.Native.Nat.{ℕ, ◌+◌, ◌<◌}
 use native.Mathlib.Omega.{arith}
 use lib.ListN.{length, get_or, set, length-set}
-use native.Mathlib.Nat.{eq-or-lt_of_le}
 use lib.Dec.{ltb, eqb, nltb→le, eqb→eq}
-use borrow.Author.Tests.{ne_eqb, lt-ltb, le-ltb, ltb-true}
+use borrow.Author.Tests.{ne_eqb, ltb-true}
 use Rattle.std.specs.List.{list_any, count_by}
 use Rattle.std.proofs.lemmas.List.Recursion.{is_count_by}
 use Rattle.finite.specs.Count.{count}
 use Rattle.finite.specs.Search.{any}
-use Rattle.finite.proofs.Tests.{split, same, true_of, false_of, of_true, neqb}
+use Rattle.finite.proofs.Tests.{split, true_of, false_of}
 use Rattle.finite.proofs.Count.{set_reads}
 use Rattle.finite.proofs.Search.{any-below-zero, any-below-more}
 use Rattle.stale.specs.Marks.{marked, Added, up_to, carried, marking}
@@ -44,46 +42,6 @@ added_twice {q = q} first second v = second.adds v ∙ ap (λ z. z || q v) (firs
 
 pub added_thrice : {p q r : ℕ → Bool} {old one two new : List ℕ} → Added p old one → Added q one two → Added r two new → (v : ℕ) → marked new v ≡ marked old v || p v || q v || r v
 added_thrice {r = r} first second third v = third.adds v ∙ ap (λ z. z || r v) (added_twice first second v)
-
--- ---- passes over the places below n
-
-up_to-zero : (p : ℕ → Bool) (v : ℕ) → up_to p 0 v ≡ false
-up_to-zero p v = ap (λ z. z && p v) (le-ltb v 0 (omega arith))
-
-up_to-more : (p : ℕ → Bool) (i v : ℕ) → up_to p (i + 1) v ≡ up_to p i v || (eqb i v && p i)
-up_to-more p i v = split (eqb i v)
-    (λ t. let e = eqb→eq i v t in rw (true_of (eqb i v) t, sym e, lt-ltb i (i + 1) (omega arith), le-ltb i i (omega arith)))
-    (λ t.
-    let other = neqb i v t in
-    rw (false_of (eqb i v) t, or-false (up_to p i v)) (ap (λ z. z && p v) (same (ltb v (i + 1)) (ltb v i)
-    (λ q. of_true (ltb v i) (lt-ltb v i (⊎_elim (λ e. absurd (other (sym e))) (λ h. h) (eq-or-lt_of_le (le_of_lt-suc v i (ltb-true v (i + 1) (true_of (ltb v (i + 1)) q)))))))
-    (λ q. of_true (ltb v (i + 1)) (lt-ltb v (i + 1) (omega (arith, ltb-true v i (true_of (ltb v i) q))))))))
-  where
-    le_of_lt-suc : (v i : ℕ) → v < i + 1 → v ≤ i
-    le_of_lt-suc v i h = omega arith
-
--- a pass over the first i places has added those that pass
-module _ (p : ℕ → Bool) (old : List ℕ) where
-  pub adds_none : length old ≡ 1024 → Added (up_to p 0) old old
-  adds_none long = record { long = long; adds = λ v. rw (up_to-zero p v) (sym (or-false (marked old v))) }
-
-  module _ (now : List ℕ) (i : ℕ) (so : Added (up_to p i) old now) where
-    -- a place that does not pass is left
-    pub adds_skip : p i ≡ false → Added (up_to p (i + 1)) old now
-    adds_skip e = record {
-      long = so.long;
-      adds = λ v. so.adds v ∙ ap (λ z. marked old v || z) (sym (up_to-more p i v ∙ ap (λ z. up_to p i v || (eqb i v && z)) e ∙ ap (λ z. up_to p i v || z) (and-false (eqb i v)) ∙ or-false (up_to p i v)));
-    }
-
-    -- one that does is marked
-    pub adds-more : p i ≡ true → i < 1024 → Added (up_to p (i + 1)) old (set now i 1)
-    adds-more e h =
-        let long = so.long in
-        record {
-          long = length-set now i 1 ∙ long;
-          adds = λ v. set-marked now i v (omega arith) ∙ ap (λ z. z || eqb i v) (so.adds v) ∙ or_assoc (marked old v) (up_to p i v) (eqb i v)
-              ∙ ap (λ z. marked old v || z) (sym (up_to-more p i v ∙ ap (λ z. up_to p i v || (eqb i v && z)) e ∙ ap (λ z. up_to p i v || z) (and-true (eqb i v))));
-        }
 
 -- ---- numbers
 
@@ -137,14 +95,3 @@ module _ (comps marks : List ℕ) where
 
 pub place-added : (old : List ℕ) (v : ℕ) → length old ≡ 1024 → v < 1024 → Added (eqb v) old (set old v 1)
 place-added old v long h = record { long = length-set old v 1 ∙ long; adds = λ w. set-marked old v w (omega arith) }
-
--- a itself, if a test passes
-module _ (old : List ℕ) (a : ℕ) (b : Bool) (long : length old ≡ 1024) where
-  pub if_added : b ≡ true → a < 1024 → Added (λ v. eqb a v && b) old (set old a 1)
-  if_added e h = record {
-    long = length-set old a 1 ∙ long;
-    adds = λ v. set-marked old a v (omega arith) ∙ ap (λ z. marked old v || z) (sym (ap (λ z. eqb a v && z) e ∙ and-true (eqb a v)));
-  }
-
-  pub if_none : b ≡ false → Added (λ v. eqb a v && b) old old
-  if_none e = record { long = long; adds = λ v. sym (ap (λ z. marked old v || z) (ap (λ z. eqb a v && z) e ∙ and-false (eqb a v)) ∙ or-false (marked old v)) }
