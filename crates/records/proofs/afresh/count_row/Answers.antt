@@ -1,6 +1,5 @@
 use Rattle.std.proofs.Common.{arith, rules, tests}
 use Rattle.anchored.specs.Followers.{follower_count}
-use Rattle.pool.specs.Input.{graph_of, anchored_by}
 use Rattle.records.proofs.Records.{followers-le, reached-le}
 use Rattle.records.proofs.afresh.count_row.Goals as goal
 
@@ -9,14 +8,10 @@ unfolding follower_count
 returns-then-anchored-u-eq1-clause-followers c = search (rules, tests)
 
 pub overflow_cast-result : goal.overflow_cast-result
-overflow_cast-result c =
-    let args = c.args in
-    omega (arith, c.search-found.ensures.lifted, followers-le (graph_of args.starts.now args.links.now) (anchored_by args.anchored.now) args.u)
+overflow_cast-result c = omega (arith, followers-le, reached-le)
 
 pub overflow_cast-result-then-reaching : goal.overflow_cast-result-then-reaching
-overflow_cast-result-then-reaching c =
-    let args = c.args in
-    omega (arith, c.search-found.ensures.reached, reached-le (graph_of args.starts.now args.links.now) (anchored_by args.anchored.now) args.u)
+overflow_cast-result-then-reaching c = omega (arith, followers-le, reached-le)
 
 pub returns-then-reaching-clause-followers : goal.returns-then-reaching-clause-followers
 unfolding follower_count
