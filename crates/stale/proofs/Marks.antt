@@ -7,24 +7,18 @@ use native.Mathlib.Omega.{arith}
 use lib.ListN.{length, get_or, set, length-set}
 use lib.Dec.{ltb, eqb, nltb→le, eqb→eq}
 use borrow.Author.Tests.{ne_eqb, ltb-true}
-use Rattle.std.specs.List.{list_any, count_by}
-use Rattle.std.proofs.lemmas.List.Recursion.{is_count_by}
-use Rattle.finite.specs.Count.{count}
+use Rattle.std.specs.List.{list_any}
 use Rattle.finite.specs.Search.{any}
 use Rattle.finite.proofs.Tests.{split, true_of, false_of}
 use Rattle.finite.proofs.Count.{set_reads}
 use Rattle.finite.proofs.Search.{any-below-zero, any-below-more}
 use Rattle.stale.specs.Marks.{marked, Added, up_to, carried, marking}
 
--- std's words for tests over a list say the same
+-- std's word for a test over a list says the same
 pub any_is : (p : ℕ → Bool) (l : List ℕ) → list_any p l ≡ any p l
 unfolding any
 any_is p [] = refl
 any_is p (w ∷ ws) = ap (λ z. p w || z) (any_is p ws)
-
-pub count_is : (p : ℕ → Bool) (l : List ℕ) → count_by p l ≡ count p l
-unfolding count
-count_is p l = sym (is_count_by (count p) p refl (λ x xs. split (p x) (λ t. rw (true_of (p x) t)) (λ t. rw (false_of (p x) t) (omega arith))) l)
 
 -- one more place marked
 chosen : (b : Bool) (x : ℕ) → eqb (cond b 1 x) 1 ≡ eqb x 1 || b

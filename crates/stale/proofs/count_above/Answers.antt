@@ -1,23 +1,28 @@
-use Rattle.std.proofs.Common.{◌<◌, ap, ◌∙◌, rules, tests, of_calls, arith}
-use Rattle.std.proofs.lemmas.Iterator.{YieldsList-from_slice}
-use Rattle.std.proofs.lemmas.Iterator.Adapters.{serves_from_places}
-use Rattle.std.proofs.lemmas.Iterator.Consumers.{count_from_yields_List, YieldsList-from_filter}
-use Rattle.std.proofs.lemmas.List.Sums.{length-filter}
-use Rattle.finite.specs.Count.{count}
+use Rattle.std.proofs.Common.{ap, ◌∙◌, arith}
+use Rattle.finite.specs.Count.{bit, count}
+use Rattle.finite.proofs.Count.{bit_le, count-start, count-more, count-end}
 use Rattle.stale.specs.Columns.{higher_by}
-use Rattle.stale.proofs.Marks.{count_is}
 use Rattle.stale.proofs.Stale.{near_part}
 use Rattle.stale.proofs.count_above.Goals as goal
 
-pub count-requires-clause-can : goal.count-requires-clause-can
-count-requires-clause-can c =
-    let part = c.neighbors-part in
-    let near = near_part c.requires.sound_table c.args.v c.requires.v_bound part.result.now part.ensures in
-    (tt, tt, serves_from_places (YieldsList-from_slice part.result.now cc) (λ x q k. search (rules, tests)) (λ x k h e. let low : x.now < 1024 = omega (arith, e, near k x.now h) in search of_calls))
+pub loop-w-init : goal.loop-w-init
+loop-w-init c = omega (arith, count-start (higher_by c.args.level.now c.args.v) c.neighbors-w-items.result.now)
+
+pub is_higher-requires-clause-p_in_bounds : goal.is_higher-requires-clause-p_in_bounds
+is_higher-requires-clause-p_in_bounds c =
+    let part = c.neighbors-w-items in
+    omega (arith, near_part c.requires.sound_table c.args.v c.requires.v_bound part.result.now part.ensures c.loop-w.w-index 0 (omega arith))
+
+pub overflow_add-count : goal.overflow_add-count
+overflow_add-count c = omega (arith, bit_le c.is_higher.result)
+
+pub loop-w-preserved : goal.loop-w-preserved
+loop-w-preserved c =
+    let step = count-more (higher_by c.args.level.now c.args.v) c.neighbors-w-items.result.now c.loop-w.w-index (omega arith) in
+    omega (arith, step, ap bit (rw c.from.ensures at c.is_higher.ensures), bit_le c.is_higher.result)
 
 pub returns : goal.returns
 returns c =
     let test = higher_by c.args.level.now c.args.v in
-    let part = c.neighbors-part in
-    count_from_yields_List c.filter.result _ c.count.ensures.ran (YieldsList-from_filter _ test (YieldsList-from_slice part.result.now cc) c.filter.ensures.closure (λ x b q k. search (rules, tests)))
-    ∙ length-filter test part.result.now ∙ count_is test part.result.now ∙ ap (count test) part.ensures
+    let part = c.neighbors-w-items in
+    c.loop-w.invariant.counted ∙ count-end test part.result.now c.loop-w.w-index (omega arith) ∙ ap (count test) part.ensures
