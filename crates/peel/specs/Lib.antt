@@ -1,1 +1,2 @@
 pub mod Peeling
+pub mod Worksheet
