@@ -20,34 +20,37 @@ struct Numbering<'a> {
 }
 
 impl<'a> Numbering<'a> {
-    // Gives w the number of the flood from `start`, and puts it at the end of the queue.
-    fn number(&mut self, w: usize, start: usize)
-        requires bounds { (w < 1024) × (start < 1024) × (self.old.tail < 1024) }
+    // Gives w the number of the flood from `start`, and this place in the queue. The end of the queue is the caller's to move, which
+    // keeps it at hand in its loop.
+    fn number(&mut self, w: usize, start: usize, place: usize)
+        requires bounds { (w < 1024) × (start < 1024) × (place < 1024) }
         ensures same_numbers { SameNumbers self.old self.new }
         ensures pending { self.new.pending ≡ set self.old.pending w 65535 }
         ensures component { self.new.component.now ≡ set self.old.component.now w start }
-        ensures queue { self.new.queue ≡ set self.old.queue self.old.tail w }
-        ensures tail { self.new.tail ≡ self.old.tail + 1 }
+        ensures queue { self.new.queue ≡ set self.old.queue place w }
+        ensures tail { self.new.tail ≡ self.old.tail }
     {
         self.pending[w] = 65535;
         self.component[w] = start as u16;
-        self.queue[self.tail] = w as u16;
-        self.tail += 1;
+        self.queue[place] = w as u16;
     }
 
-    // Numbers the neighbors of u that join it, of level k and without a number.
+    // Numbers the neighbors of u that join it, of level k and without a number, and puts them at the end of the queue.
     fn visit(&mut self, starts: &[u16], links: &[u16], k: u16, start: usize, u: usize)
         requires { CanVisitFrom starts.now links.now self.old k start u }
         ensures same_numbers { SameNumbers self.old self.new }
         ensures visits { VisitsFrom starts.now links.now self.old self.new k start u (neighbors starts.now links.now u) }
     {
         let part = table::neighbors(starts, links, u);
+        let mut end = self.tail;
         for neighbor in part {
             let w = *neighbor as usize;
             if self.pending[w] == k {
-                self.number(w, start);
+                self.number(w, start, end);
+                end += 1;
             }
         }
+        self.tail = end;
     }
 
     // The flood from a vertex that is not anchored and has no number.
@@ -58,7 +61,8 @@ impl<'a> Numbering<'a> {
     {
         let k = self.pending[start];
         let mut head = self.tail;
-        self.number(start, start);
+        self.number(start, start, head);
+        self.tail += 1;
         // The queue grows while it is read.
         while head < self.tail {
             let u = self.queue[head] as usize;

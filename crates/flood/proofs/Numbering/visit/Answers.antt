@@ -39,6 +39,6 @@ loop-neighbor-preserved c =
     elim c.if-self-w.branch [
       | then-self-w way ↦
           let e = way.number.ensures in
-          rw (more, way.self-is, e.pending, e.component, e.queue, e.tail) (record { same_numbers = e.same_numbers ∙ inv.same_numbers; visits = visits_label inv.visits _ i (omega (arith, way.if-self-w.true)) })
-      | else-self-w way ↦ rw (more, way.self-is) (record { same_numbers = inv.same_numbers; visits = visits_pass inv.visits _ i way.if-self-w.false })
+          rw (more, way.self-is, way.end-is, e.pending, e.component, e.queue) (record { same_numbers = e.same_numbers ∙ inv.same_numbers; visits = visits_label inv.visits _ i (omega (arith, way.if-self-w.true)) })
+      | else-self-w way ↦ rw (more, way.self-is, way.end-is) (record { same_numbers = inv.same_numbers; visits = visits_pass inv.visits _ i way.if-self-w.false })
     ]
