@@ -18,7 +18,7 @@ use Rattle.finite.proofs.Search.{member_i, member-e, member_no}
 use Rattle.table.specs.Table.{vertices, neighbors, SoundTable}
 use Rattle.anchored.specs.Graph.{Graph, Simple}
 use Rattle.anchored.specs.Followers.{adding}
-use Rattle.anchored.specs.Collapse.{falls, fall_mark}
+use Rattle.anchored.specs.Collapse.{falls, fall_mark, exposed}
 use Rattle.anchored.proofs.Core.{level-lt, level-anchored}
 use Rattle.anchored.proofs.Anchor.{free_of, other_of}
 use Rattle.anchored.proofs.Falls.{fallen, settled_falls}
@@ -33,6 +33,11 @@ pub record Telling (s l a levels : List ℕ) (x head u j : ℕ) (support queue :
   pub inside : head < end
   pub at_head : get_or queue head 0 ≡ u
   pub falling : Falling s l a levels x (withdrawn queue head (take j (neighbors s l u))) support queue end
+
+-- u stands there, withdrawn from nobody
+pub tell-first : {s l a levels support queue : List ℕ} {x head end : ℕ} → head < end → Falling s l a levels x (withdrawn queue head []) support queue end
+    → Telling s l a levels x head (get_or queue head 0) 0 support queue end
+tell-first inside falling = record { inside = inside; at_head = refl; falling = falling }
 
 -- what stands at the front stands in more of the list
 in_front : (z : List ℕ) (i j p : ℕ) → i ≤ j → In p (take i z) → In p (take j z)
@@ -80,12 +85,19 @@ module _ {s l a levels : List ℕ} (h : Leveled s l a levels) (x : ℕ) where
         (λ w p t. or-e (member p (take (head + 1) queue)) _ t (λ m. in_front queue (head + 1) end p (omega (arith, k.inside)) (member-e p (take (head + 1) queue) m)) (λ m. absurd m))
         k.falling
 
-    module _ (next : j < length (neighbors s l u)) where
+    -- the neighbor at place j is looked at
+    module _ {part : List ℕ} (is-part : part ≡ neighbors s l u) (next : j < length part) where
       abbrev w : ℕ
-      w = get_or (neighbors s l u) j 0
+      w = get_or part j 0
+
+      in-part : j < length (neighbors s l u)
+      in-part = omega (arith, ap length is-part)
+
+      here : w ≡ get_or (neighbors s l u) j 0
+      here = ap (λ z. get_or z j 0) is-part
 
       neighbor_w : In w (neighbors s l u)
-      neighbor_w = in_at (neighbors s l u) j 0 next
+      neighbor_w = subst (In w) is-part (in_at part j 0 next)
 
       pub vertex-w : w < vertices s
       vertex-w = table.range u w vertex-u neighbor_w
@@ -103,20 +115,20 @@ module _ {s l a levels : List ℕ} (h : Leveled s l a levels) (x : ℕ) where
           distinct-before (take end queue) head k.falling.distinct (omega (arith, k.inside, length-take-le end queue k.falling.room))
           (rw (take-take head end queue (omega (arith, k.inside)), get_or-take end queue head 0 k.inside, k.at_head) i) in
           let first = member_no u (take head queue) fresh in
-          let later = member_no w (take j (neighbors s l u)) (distinct-before (neighbors s l u) j (table.distinct u vertex-u) next) in
+          let later = member_no w (take j (neighbors s l u)) (λ i. distinct-before (neighbors s l u) j (table.distinct u vertex-u) in-part (subst (λ z. In z (take j (neighbors s l u))) here i)) in
           record {
             before = rw (first, later);
             after = true_of (telling w u) (or_r (member u (take head queue)) _ (and_i (member w (take (j + 1) (neighbors s l u))) _
-                (member_i w (take (j + 1) (neighbors s l u)) ((more w next).1 (inr refl))) (eqb_of (get_or queue head 0) u k.at_head)));
+                (member_i w (take (j + 1) (neighbors s l u)) ((more w in-part).1 (inr here))) (eqb_of (get_or queue head 0) u k.at_head)));
             other = λ v p f.
                 let among = member v (take j (neighbors s l u)) in
                 let among-more = member v (take (j + 1) (neighbors s l u)) in
                 ap (λ m. member p (take head queue) || m) (same (among && eqb (get_or queue head 0) p) (among-more && eqb (get_or queue head 0) p)
-                (λ t. and_i among-more _ (member_i v (take (j + 1) (neighbors s l u)) ((more v next).1 (inl (member-e v (take j (neighbors s l u)) (and_l among _ t))))) (and_r among _ t))
+                (λ t. and_i among-more _ (member_i v (take (j + 1) (neighbors s l u)) ((more v in-part).1 (inl (member-e v (take j (neighbors s l u)) (and_l among _ t))))) (and_r among _ t))
                 (λ t.
                 let p-is = eqb→eq (get_or queue head 0) p (and_r among-more _ t) in
-                and_i among _ (member_i v (take j (neighbors s l u)) (⊎_elim (λ i. i) (λ e. absurd (f e (sym p-is ∙ k.at_head)))
-                ((more v next).0 (member-e v (take (j + 1) (neighbors s l u)) (and_l among-more _ t))))) (and_r among-more _ t)));
+                and_i among _ (member_i v (take j (neighbors s l u)) (⊎_elim (λ i. i) (λ e. absurd (f (e ∙ sym here) (sym p-is ∙ k.at_head)))
+                ((more v in-part).0 (member-e v (take (j + 1) (neighbors s l u)) (and_l among-more _ t))))) (and_r among-more _ t)));
           }
 
       -- w does not rely on u
@@ -206,7 +218,7 @@ module _ {s l a levels : List ℕ} (h : Leveled s l a levels) (x : ℕ) where
         omega (arith, enough-last w b f o, k.kept w b f o, beside, left_is h x (λ p. member p (take end queue)) w b (free_of A x w f), h.hold w b))
         (λ v b t. (k.down v (member-e v (take end queue) t)).1)
 
-    pub kept-tells : (v : ℕ) → v < vertices s → fell_by levels support v ≡ fall_mark G A x v
+    kept-tells : (v : ℕ) → v < vertices s → fell_by levels support v ≡ fall_mark G A x v
     unfolding fell_by fall_mark falls
     kept-tells v b = ap bit (split (adding A x v)
         (λ t.
@@ -215,3 +227,11 @@ module _ {s l a levels : List ℕ} (h : Leveled s l a levels) (x : ℕ) where
         (λ f. same (fell levels support v) (falls G A x v)
         (λ t. subst T (found-falls v b f) (member_i v (take end queue) ((k.listed v b f).1 t)))
         (λ t. (k.listed v b f).0 (member-e v (take end queue) (subst T (sym (found-falls v b f)) t)))))
+
+  -- the same of what is lent, where it is the support that is kept
+  module _ {support queue last : List ℕ} (head : ℕ) {end : ℕ} (same_kept : last ≡ support) (k : Falling s l a levels x (withdrawn queue head []) support queue end) where
+    pub last-tells : head ≡ end → (v : ℕ) → v < vertices s → fell_by levels last v ≡ fall_mark G A x v
+    last-tells done = rw same_kept (kept-tells (subst (λ z. Falling s l a levels x (withdrawn queue z []) support queue end) done k))
+
+    pub last-touched : (w : ℕ) → w < vertices s → (get_or last w 0 ≡ 65535 → ⊥) → T (exposed G A x w)
+    last-touched = rw same_kept k.touched
