@@ -5,7 +5,7 @@ use mathlib.Core.List.{List, [], ◌∷◌, ◌++◌, map, map-append}
 use Prim.Native.Nat.{ℕ, ◌+◌, ◌≤◌, ◌<◌}
 use native.Mathlib.Numerals.{add-one}
 use native.Mathlib.Omega.{arith}
-use lib.ListN.{length, take, drop, get_or, set, length-map, get_or-append}
+use lib.ListN.{length, take, drop, get_or, set, length-map}
 use lib.Seq.{take-suc, take-append_seam, length-take-le, get_or-set_same, get_or-set_other}
 use lib.Dec.{T, eqb, not_T, eqb→eq, eqb_refl}
 use Rattle.finite.specs.Count.{count, below}
@@ -62,9 +62,6 @@ module _ (f : ℕ → ℕ) (numbers : List ℕ) where
       let more : map f (take (i + 1) numbers) ≡ map f (take i numbers) ++ f (get_or numbers i 0) ∷ [] = ap (map f) one ∙ map-append f (take i numbers) (get_or numbers i 0 ∷ []) in
       store-more (map f (take i numbers)) old new i (f (get_or numbers i 0)) long e b ∙ ap (λ l. l ++ drop (i + 1) old) (sym more)
 
-  pub gather_all : (old : List ℕ) (c : ℕ) → c ≤ length numbers → map f (take c numbers) ++ drop c old ≡ front (map f (take c numbers)) old
-  gather_all old c h = ap (λ i. map f (take c numbers) ++ drop i old) (sym (length-map (take c numbers) f ∙ length-take-le c numbers h))
-
 module _ (level component : List ℕ) (n : ℕ) where
   abbrev listed : List ℕ
   listed = ranked_in level component n n
@@ -74,11 +71,10 @@ module _ (level component : List ℕ) (n : ℕ) where
     pub ranked_taken : take c new ≡ listed
     ranked_taken = rw (counted, stored) (take-append_seam listed (drop (length listed) old))
 
-    pub ranked-placed : n ≤ 1024 → Placed c new
-    ranked-placed small i h =
-        let b : i < length listed = omega arith in
+    pub ranked-placed : n ≤ 1024 → Placed (length (take c new)) (take c new)
+    ranked-placed small = rw ranked_taken (λ i b.
         let m = (in_falling (λ v. get_or level v 0) (numbered component) n n (get_or listed i 0)).0 (in_at listed i 0 b) in
-        omega (arith, ap (λ l. get_or l i 0) stored ∙ get_or-append listed (drop (length listed) old) 0 i b, m.0)
+        omega (arith, m.0))
 
 -- ---- the list of the components
 

@@ -26,26 +26,22 @@ fn count_members(n: usize, component: &[u16; 1024], size: &mut [u16; 1024])
     ensures { Holds size.new n (members component.now n) }
 {
     *size = [0; 1024];
-    let mut v: usize = 0;
-    while v < n {
-        let number = component[v];
-        if number < n as u16 {
-            size[number as usize] += 1;
+    for number in &component[..n] {
+        let number = *number as usize;
+        if number < n {
+            size[number] += 1;
         }
-        v += 1;
     }
 }
 
-// Puts the values of the first `count` numbers at the front of a slice.
-fn gather(count: usize, numbers: &[u16], value: &[u16; 1024], out: &mut [u16])
-    requires count_in_bounds { (count ≤ length numbers.now) × (count ≤ length out.old) }
-    requires placed { Placed count numbers.now }
-    ensures { out.new ≡ front (map (λ v. get_or value.now v 0) (take count numbers.now)) out.old }
+// Puts the values of the numbers at the front of a slice. By index, since a proof knows nothing of what a zipped `iter_mut` writes.
+fn gather(numbers: &[u16], value: &[u16; 1024], out: &mut [u16])
+    requires numbers_in_bounds { length numbers.now ≤ length out.old }
+    requires placed { Placed (length numbers.now) numbers.now }
+    ensures { out.new ≡ front (map (λ v. get_or value.now v 0) numbers.now) out.old }
 {
-    let mut i: usize = 0;
-    while i < count {
-        out[i] = value[numbers[i] as usize];
-        i += 1;
+    for (i, v) in numbers.iter().enumerate() {
+        out[i] = value[*v as usize];
     }
 }
 
@@ -69,8 +65,9 @@ fn list(
     ensures numbers { numbers.new ≡ front (ranked_in level.now component.now n n) numbers.old }
 {
     let count = ranking::rank(n, level, component, numbers);
-    gather(count, numbers, level, levels);
-    gather(count, numbers, size, sizes);
+    let listed = &numbers[..count];
+    gather(listed, level, levels);
+    gather(listed, size, sizes);
     count
 }
 
