@@ -1,12 +1,15 @@
-use Rattle.std.proofs.Common.{◌≡◌, take, get_or, refl, sym, ◌∙◌, arith, rules}
-use lib.Seq.{get_or-take}
+use Rattle.std.proofs.Common.{◌≡◌, eqb, take, get_or, refl, arith, rules}
+use Rattle.std.proofs.lemmas.List.{get_or-take}
 use Rattle.finite.proofs.Count.{zeros-at, count-below-zero}
 use Rattle.components.proofs.Entries.{members-few, members-more, members-same}
 use Rattle.components.proofs.count_members.Goals as goal
 use Rattle.components.proofs.count_members.Goals.{then-number-n, else-number-n}
 
 pub loop-number-init : goal.loop-number-init
-loop-number-init c = record { long = refl; counted = λ i b. zeros-at 1024 i ∙ sym (count-below-zero _) }
+loop-number-init c = record {
+  long = refl;
+  counted = λ i b. omega (arith, zeros-at 1024 i, count-below-zero (λ v. eqb (get_or c.args.component.now v 0) i));
+}
 
 pub overflow_add-size : goal.overflow_add-size
 overflow_add-size c =
