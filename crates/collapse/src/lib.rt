@@ -25,10 +25,8 @@ fn copy_falls(levels: &[u16], support: &[u16; 1024], marks: &mut [u8])
     requires marks_len_bound { length marks.old ≤ 1024 }
     ensures { marks.new ≡ tabulate (fell_by levels.now support.now) (length marks.old) }
 {
-    let mut v: usize = 0;
-    while v < marks.len() {
-        marks[v] = (support[v] < levels[v]) as u8;
-        v += 1;
+    for (v, mark) in marks.iter_mut().enumerate() {
+        *mark = (support[v] < levels[v]) as u8;
     }
 }
 
