@@ -36,7 +36,7 @@ impl<'a> Fallen<'a> {
     )
         requires leveled { Leveled starts.now links.now anchored.now levels.now }
         requires head_lt_end { head < self.old.end }
-        requires falling_2 { Falling starts.now links.now anchored.now levels.now x (withdrawn self.old.list head []) self.old.support.now self.old.list self.old.end }
+        requires falling_before { Falling starts.now links.now anchored.now levels.now x (withdrawn self.old.list head []) self.old.support.now self.old.list self.old.end }
         ensures same_reference { self.new.support.ghost_name ≡ self.old.support.ghost_name }
         ensures falling { Falling starts.now links.now anchored.now levels.now x (withdrawn self.new.list (head + 1) []) self.new.support.now self.new.list self.new.end }
         ensures longer { head < self.new.end }

@@ -1,7 +1,7 @@
 // The list of components: each once, as level, size and number, by falling level, then by rising number.
 #![tactic(auto)]
 
-ghost use Rattle.std.specs.Prelude.{◌≡◌, [], ◌∷◌, map, ◌≤◌, length, take, get_or};
+ghost use Rattle.std.specs.Prelude.{◌≡◌, [], ◌∷◌, map, ◌≤◌, length, get_or};
 ghost use Rattle.finite.specs.Count.{count as count_in, below};
 ghost use Rattle.table.specs.Table.{vertices};
 ghost use Rattle.table.specs.Guard.{held, front};

@@ -23,15 +23,18 @@ count_is p l = sym (is_count_by (count p) p refl (λ x xs. split (p x) (λ t. rw
 near : {s l : List ℕ} → SoundTable s l → (w : ℕ) → w < vertices s → (part : List ℕ) → part ≡ neighbors s l w → (i d : ℕ) → i < length part → get_or part i d < vertices s
 near {s} {l} table w h part e i d b = table.range w (get_or part i d) h (subst (In (get_or part i d)) e (in_at part i d b))
 
+-- p is not below w, as the code tests it
+abbrev not_below : List ℕ → ℕ → ℕ → Bool
+not_below levels w p = not (ltb (get_or levels p 0) (get_or levels w 0))
+
 counted : (c : After-count) → c.count.result ≡ count (upholds c.args.levels.now c.args.w) (neighbors c.args.starts.now c.args.links.now c.args.w)
 counted c =
     let levels = c.args.levels.now in
     let w = c.args.w in
     let part = c.neighbors-part in
-    let test = λ (p : ℕ). not (ltb (get_or levels p 0) (get_or levels w 0)) in
-    count_from_yields_List c.filter.result _ c.count.ensures.ran (YieldsList-from_filter _ test (YieldsList-from_slice part.result.now cc) c.filter.ensures.closure (λ x b q k. search (rules, tests)))
-    ∙ length-filter test part.result.now ∙ count_is test part.result.now
-    ∙ count_cong test (upholds levels w) part.result.now (λ p i. not-ltb (get_or levels w 0) (get_or levels p 0)) ∙ ap (count (upholds levels w)) part.ensures
+    count_from_yields_List c.filter.result _ c.count.ensures.ran (YieldsList-from_filter _ (not_below c.args.levels.now c.args.w) (YieldsList-from_slice c.neighbors-part.result.now cc) c.filter.ensures.closure (λ x b q k. search (rules, tests)))
+    ∙ length-filter (not_below levels w) part.result.now ∙ count_is (not_below levels w) part.result.now
+    ∙ count_cong (not_below levels w) (upholds levels w) part.result.now (λ p i. not-ltb (get_or levels w 0) (get_or levels p 0)) ∙ ap (count (upholds levels w)) part.ensures
 
 pub count-requires-clause-can : goal.count-requires-clause-can
 count-requires-clause-can c =

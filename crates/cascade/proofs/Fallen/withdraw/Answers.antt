@@ -5,7 +5,7 @@ use Rattle.cascade.proofs.Fallen.withdraw.Goals as goal
 use Rattle.cascade.proofs.Fallen.withdraw.Goals.{then-relies, else-relies}
 
 pub neighbors-w-items-requires-clause-v_bound : goal.neighbors-w-items-requires-clause-v_bound
-neighbors-w-items-requires-clause-v_bound c = vertex-u c.requires.leveled _ (tell-first c.requires.head_lt_end c.requires.falling_2)
+neighbors-w-items-requires-clause-v_bound c = vertex-u c.requires.leveled _ (tell-first c.requires.head_lt_end c.requires.falling_before)
 
 pub relies-requires-clause-w_in_bounds : goal.relies-requires-clause-w_in_bounds
 relies-requires-clause-w_in_bounds c =
