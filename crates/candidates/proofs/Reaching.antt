@@ -8,7 +8,7 @@ use native.Mathlib.Nat.{eq-or-lt_of_le}
 use native.Mathlib.Numerals.{add-one}
 use native.Mathlib.Omega.{arith}
 use lib.ListN.{length, take, get_or, set, replicate, length-append, length-set, length-replicate, get_or-append}
-use lib.Seq.{length-take-le, take-suc, take-suc-set, take_all, get_or-set_same, get_or-set_other}
+use lib.Seq.{length-take-le, take-suc, take-suc-set, take_all, get_or-take, get_or-set_same, get_or-set_other}
 use lib.Dec.{T, eqb, T_not, not_T, eqb→eq}
 use Rattle.finite.specs.Count.{In}
 use Rattle.finite.specs.Search.{member}
@@ -18,7 +18,7 @@ use Rattle.finite.proofs.Tests.{and_i, and_l, and_r, split, true_of, of_true, fa
 use Rattle.finite.proofs.Count.{zeros-at, in_at, at_in, in_append, distinct_snoc, distinct-length, distinct-other}
 use Rattle.finite.proofs.Search.{member_i, member-e, member_yes, member_snoc, member-other}
 use Rattle.finite.proofs.Pairs.{pair_no, pair-e}
-use Rattle.table.specs.Table.{vertices, neighbors}
+use Rattle.table.specs.Table.{vertices, neighbors, SoundTable}
 use Rattle.anchored.specs.Graph.{Graph, Simple}
 use Rattle.anchored.specs.Core.{level, layer, greater}
 use Rattle.anchored.specs.Followers.{first_step, Walk, start, step, candidates}
@@ -28,6 +28,10 @@ use Rattle.pool.specs.Arrays.{Holds}
 use Rattle.pool.specs.Sheet.{Sheet}
 use Rattle.candidates.specs.Reaching.{alike, greater_of, steps_of, visit, visit_all, Queued}
 use Rattle.pool.proofs.Laws.{simple, free_byte, byte_free}
+
+-- the neighbor at a place is a vertex
+pub neighbor_at : {s l : List ℕ} → SoundTable s l → (u : ℕ) → u < vertices s → {part : List ℕ} → part ≡ neighbors s l u → (j : ℕ) → j < length part → get_or part j 0 < vertices s
+neighbor_at table u b {part} e j h = table.range u (get_or part j 0) b (subst (In (get_or part j 0)) e (in_at part j 0 h))
 
 -- ---- a visit
 
@@ -135,6 +139,10 @@ module _ {n : ℕ} {marks queue : List ℕ} {tail : ℕ} (k : Queued n marks que
 
   pub queue_within : tail ≤ n
   queue_within = omega (arith, queue_length, distinct-length (take tail queue) n k.distinct k.within)
+
+  -- what stands at its places are vertices
+  pub queue_vertex : (i : ℕ) → i < tail → get_or queue i 0 < n
+  queue_vertex i h = k.within (get_or queue i 0) (subst (λ v. In v (take tail queue)) (get_or-take tail queue i 0 h) (in_at (take tail queue) i 0 (omega (arith, queue_length))))
 
   -- a mark is 0 exactly at the vertices that are not in the queue
   unmarked : (w : ℕ) → get_or marks w 0 ≡ 0 → In w (take tail queue) → ⊥

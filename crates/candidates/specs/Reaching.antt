@@ -1,5 +1,5 @@
 -- The candidates over plain lists: the test of a step, the queue, and what reaching promises.
-use Rattle.std.specs.Prelude.{◌≡◌, Bool, not, cond, ◌&&◌, ◌||◌, List, [], ◌∷◌, ◌++◌, ℕ, ◌≤◌, ◌<◌, length, take, get_or, eqb}
+use Rattle.std.specs.Prelude.{◌≡◌, Bool, true, false, not, cond, ◌&&◌, ◌||◌, List, [], ◌∷◌, ◌++◌, ℕ, ◌≤◌, ◌<◌, length, take, get_or, eqb}
 use Rattle.finite.specs.Count.{In, Distinct}
 use Rattle.finite.specs.Search.{member}
 use Rattle.finite.specs.Sets.{has}
@@ -7,6 +7,8 @@ use Rattle.finite.specs.Pairs.{pair_le}
 use Rattle.table.specs.Table.{vertices}
 use Rattle.anchored.specs.Followers.{candidates}
 use Rattle.pool.specs.Input.{graph_of, anchored_by}
+use Rattle.candidates.specs.declared.Step.{Step}
+use Rattle.candidates.specs.declared.Step.TheVariants.{First, Further}
 
 -- two vertices of one level
 abbrev pub alike : List ℕ → ℕ → ℕ → Bool
@@ -15,6 +17,11 @@ alike levels v w = eqb (get_or levels v 0) (get_or levels w 0)
 -- the pair of w is greater than that of u
 abbrev pub greater_of : List ℕ → List ℕ → ℕ → ℕ → Bool
 greater_of levels layers w u = not (pair_le (get_or levels w 0) (get_or layers w 0) (get_or levels u 0) (get_or layers u 0))
+
+-- the step of a walk that may change the level
+abbrev pub is_first : Step → Bool
+is_first First = true
+is_first Further = false
 
 -- a walk steps from u to w: not anchored, after the first step of the same level, and of greater pair
 unfoldable pub steps_of : List ℕ → List ℕ → List ℕ → Bool → ℕ → ℕ → Bool

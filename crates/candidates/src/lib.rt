@@ -1,14 +1,51 @@
 // The candidates of a vertex: those that an upstair walk from it reaches, put into a queue one after the other.
 #![tactic(auto)]
 
-ghost use Rattle.std.specs.Prelude.{◌≡◌, ◌<◌, length, take};
+ghost use Rattle.std.specs.Prelude.{◌≡◌, ◌+◌, ◌<◌, length, set, take, replicate};
 ghost use Rattle.table.specs.Table.{vertices, neighbors as neighbors_of};
 ghost use Rattle.pool.specs.Sheet.{Sheet};
-ghost use Rattle.candidates.specs.Reaching.{steps_of, visit_all, Queued, Reached};
+ghost use Rattle.candidates.specs.Reaching.{is_first, steps_of, visit_all, Queued, Reached};
 
 use pool::pair::is_above;
 
-// Puts the candidates into the queue and marks them 2; how many there are.
+// Which step of a walk: the first may change the level, a further one may not.
+#[derive(Clone, Copy, Debug, PartialEq, Eq)]
+pub enum Step {
+    First,
+    Further,
+}
+
+// Vertices in the order in which they were put: the first `tail` places.
+#[derive(Drop)]
+pub struct Queue {
+    pub places: [u16; 1024],
+    pub tail: usize,
+}
+
+impl Queue {
+    // An empty queue.
+    pub fn new() -> Self
+        ensures places { result.places ≡ replicate 1024 0 }
+        ensures tail { result.tail ≡ 0 }
+    {
+        Queue {
+            places: [0; 1024],
+            tail: 0,
+        }
+    }
+
+    // Puts v at the end.
+    pub fn push(&mut self, v: u16)
+        requires { self.old.tail < 1024 }
+        ensures places { self.new.places ≡ set self.old.places self.old.tail v }
+        ensures tail { self.new.tail ≡ self.old.tail + 1 }
+    {
+        self.places[self.tail] = v;
+        self.tail += 1;
+    }
+}
+
+// Empties the queue, then puts the candidates into it and marks them 2.
 pub fn reach(
     starts: &[u16],
     links: &[u16],
@@ -17,70 +54,79 @@ pub fn reach(
     layers: &[u16],
     x: usize,
     marks: &mut [u8; 1024],
-    queue: &mut [u16; 1024],
-) -> usize
+    queue: &mut Queue,
+)
     requires sheet { Sheet starts.now links.now anchored.now levels.now layers.now }
     requires x_bound { x < vertices starts.now }
-    requires queued { Queued (vertices starts.now) marks.old queue.old 0 }
-    ensures { Reached starts.now links.now anchored.now x marks.new queue.new result }
+    requires queued { Queued (vertices starts.now) marks.old queue.old.places 0 }
+    ensures { Reached starts.now links.now anchored.now x marks.new queue.new.places queue.new.tail }
 {
-    let mut tail = expand(
-        starts, links, anchored, levels, layers, true, x, marks, queue, 0,
+    queue.tail = 0;
+    expand(
+        starts,
+        links,
+        anchored,
+        levels,
+        layers,
+        Step::First,
+        x,
+        marks,
+        queue,
     );
     let mut head: usize = 0;
-    while head < tail {
-        let u = queue[head] as usize;
-        tail = expand(
-            starts, links, anchored, levels, layers, false, u, marks, queue, tail,
+    // The queue grows while it is read.
+    while head < queue.tail {
+        let u = queue.places[head] as usize;
+        expand(
+            starts,
+            links,
+            anchored,
+            levels,
+            layers,
+            Step::Further,
+            u,
+            marks,
+            queue,
         );
         head += 1;
     }
-    tail
 }
 
-// Puts the vertices that a walk steps to from u, and that are not marked yet, at the queue's end, and marks them; the new end.
+// Puts the vertices that a walk steps to from u, and that are not marked yet, at the queue's end, and marks them.
 fn expand(
     starts: &[u16],
     links: &[u16],
     anchored: &[u8],
     levels: &[u16],
     layers: &[u16],
-    first: bool,
+    step: Step,
     u: usize,
     marks: &mut [u8; 1024],
-    queue: &mut [u16; 1024],
-    tail: usize,
-) -> usize
+    queue: &mut Queue,
+)
     requires sheet { Sheet starts.now links.now anchored.now levels.now layers.now }
     requires u_bound { u < vertices starts.now }
-    requires queued_2 { Queued (vertices starts.now) marks.old queue.old tail }
-    ensures queued { Queued (vertices starts.now) marks.new queue.new result }
-    ensures pushed { let passes = steps_of anchored.now levels.now layers.now first u in
-        take result queue.new ≡ visit_all passes (take tail queue.old) (neighbors_of starts.now links.now u) }
+    requires queued_2 { Queued (vertices starts.now) marks.old queue.old.places queue.old.tail }
+    ensures queued { Queued (vertices starts.now) marks.new queue.new.places queue.new.tail }
+    ensures pushed { let passes = steps_of anchored.now levels.now layers.now (is_first step) u in
+        take queue.new.tail queue.new.places ≡ visit_all passes (take queue.old.tail queue.old.places) (neighbors_of starts.now links.now u) }
 {
-    let part = table::neighbors(starts, links, u);
-    let mut end = tail;
-    let mut j: usize = 0;
-    while j < part.len() {
-        let w = part[j] as usize;
-        if steps(anchored, levels, layers, first, u, w) {
-            if marks[w] == 0 {
-                marks[w] = 2;
-                queue[end] = part[j];
-                end += 1;
-            }
+    for next in table::neighbors(starts, links, u) {
+        let w = *next as usize;
+        if steps(anchored, levels, layers, step, u, w) && marks[w] == 0 {
+            marks[w] = 2;
+            queue.push(*next);
         }
-        j += 1;
     }
-    end
 }
 
 // Whether a walk steps from u to w; the first step may change the level.
+#[tactic(auto, unfolding(crate::specs::Reaching::steps_of))]
 pub fn steps(
     anchored: &[u8],
     levels: &[u16],
     layers: &[u16],
-    first: bool,
+    step: Step,
     u: usize,
     w: usize,
 ) -> bool
@@ -89,15 +135,9 @@ pub fn steps(
     requires w_in_bounds_3 { w < length layers.now }
     requires u_in_bounds { u < length levels.now }
     requires u_in_bounds_2 { u < length layers.now }
-    ensures { result ≡ steps_of anchored.now levels.now layers.now first u w }
+    ensures { result ≡ steps_of anchored.now levels.now layers.now (is_first step) u w }
 {
-    if anchored[w] != 0 {
-        return false;
-    }
-    if !first {
-        if levels[w] != levels[u] {
-            return false;
-        }
-    }
-    is_above(levels, layers, w, u)
+    anchored[w] == 0
+        && (matches!(step, Step::First) || levels[w] == levels[u])
+        && is_above(levels, layers, w, u)
 }
