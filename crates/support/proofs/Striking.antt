@@ -158,6 +158,10 @@ pub support_cong : (a levels : List ℕ) (M N : ℕ → Bool) (x v : ℕ) (part 
 unfolding supports_of
 support_cong a levels M N x v part e = count_cong (supports_of a levels M x v) (supports_of a levels N x v) part (λ p i. let f : M p ≡ N p = e p in rw f)
 
+-- how many of its neighbors support v beside those in q
+abbrev pub support_in : List ℕ → List ℕ → List ℕ → List ℕ → ℕ → List ℕ → ℕ → ℕ
+support_in s l a levels x q v = count (supports_of a levels (λ p. member p q) x v) (neighbors s l v)
+
 -- of the candidates q those before place i are weighed: S is their support
 pub record Weighing (n : ℕ) (levels : List ℕ) (S : ℕ → ℕ) (q : List ℕ) (i : ℕ) (st : State) : Type 0 where
   pub listed : Listed n (λ v. member v q) st

@@ -4,6 +4,7 @@ use Rattle.finite.specs.Count.{count, In, Distinct}
 use Rattle.finite.specs.Search.{member}
 use Rattle.table.specs.Table.{vertices, neighbors}
 use Rattle.candidates.specs.Reaching.{alike}
+use Rattle.support.specs.declared.Support.{Support}
 
 -- ---- support
 
@@ -26,6 +27,10 @@ pub record State : Type 0 where
 
 abbrev pub state : List ℕ → List ℕ → List ℕ → ℕ → State
 state m p z e = record { marks = m; support = p; struck = z; end = e }
+
+-- what the marks and the support say together
+abbrev pub state_of : List ℕ → Support → State
+state_of m p = state m p.counts p.struck.places p.struck.tail
 
 -- those struck out, in order
 abbrev pub out : State → List ℕ

@@ -1,47 +1,92 @@
 // The support of the candidates: counted, and those of too little struck out until all others have enough.
 #![tactic(auto)]
 
-ghost use Rattle.std.specs.Prelude.{◌≡◌, ℕ, ◌≤◌, ◌<◌, length, get_or, take};
+ghost use Rattle.std.specs.Prelude.{◌≡◌, ℕ, ◌≤◌, ◌<◌, length, get_or, take, replicate};
 ghost use Rattle.finite.specs.Count.{count, In};
 ghost use Rattle.finite.specs.Search.{member};
 ghost use Rattle.table.specs.Table.{vertices, neighbors as neighbors_of, SoundTable};
 ghost use Rattle.pool.specs.Sheet.{Leveled};
 ghost use Rattle.candidates.specs.Reaching.{Queued};
-ghost use Rattle.support.specs.Striking.{supports_of, marked, state, strike_of, weaken_of, Weighed, Settled};
+ghost use Rattle.support.specs.Striking.{supports_of, marked, state_of, strike_of, weaken_of, Weighed, Settled};
 
+use candidates::Queue;
 use pool::pair::is_higher;
 
-// Counts the support of each candidate and strikes out those of too little; how many these are.
+// The supporters that each candidate still has, and those struck out, in order. Their marks stand apart, since they are lent.
+#[derive(Drop)]
+pub struct Support {
+    pub counts: [u16; 1024],
+    pub struck: Queue,
+}
+
+impl Support {
+    // Nothing counted, nobody struck out.
+    pub fn new() -> Self
+        ensures counts { result.counts ≡ replicate 1024 0 }
+        ensures struck { result.struck.places ≡ replicate 1024 0 }
+    {
+        Support {
+            counts: [0; 1024],
+            struck: Queue::new(),
+        }
+    }
+
+    // u, struck out, no longer supports its neighbor w: if w is of its level and still in, w loses a supporter, and may be struck out too.
+    #[tactic(auto, unfolding(crate::specs::Striking::weaken_of))]
+    fn weaken(&mut self, levels: &[u16], u: usize, w: usize, marks: &mut [u8; 1024])
+        requires u_in_bounds { u < length levels.now }
+        requires w_in_bounds { w < length levels.now }
+        requires w_bound { w < 1024 }
+        requires nonzero { get_or marks.old w 0 ≡ 2 → (0 < get_or self.old.counts w 0) × (self.old.struck.tail < 1024) }
+        ensures { state_of marks.new self.new ≡ weaken_of levels.now u w (state_of marks.old self.old) }
+    {
+        if marks[w] == 2 && levels[w] == levels[u] {
+            self.counts[w] -= 1;
+            self.strike(levels, w, marks);
+        }
+    }
+
+    // Strikes v out if its support does not exceed its level.
+    #[tactic(auto, unfolding(crate::specs::Striking::strike_of))]
+    fn strike(&mut self, levels: &[u16], v: usize, marks: &mut [u8; 1024])
+        requires v_in_bounds { v < length levels.now }
+        requires v_bound { v < 1024 }
+        requires end_bound { self.old.struck.tail < 1024 }
+        ensures { state_of marks.new self.new ≡ strike_of levels.now v (state_of marks.old self.old) }
+    {
+        if self.counts[v] <= levels[v] {
+            marks[v] = 1;
+            self.struck.push(v as u16);
+        }
+    }
+}
+
+// Counts the support of each candidate and strikes out those of too little.
 pub fn weigh(
     starts: &[u16],
     links: &[u16],
     anchored: &[u8],
     levels: &[u16],
     x: usize,
-    queue: &[u16; 1024],
-    tail: usize,
+    queue: &Queue,
     marks: &mut [u8; 1024],
-    support: &mut [u16; 1024],
-    struck: &mut [u16; 1024],
-) -> usize
+    support: &mut Support,
+)
     requires leveled { Leveled starts.now links.now anchored.now levels.now }
-    requires queued { Queued (vertices starts.now) marks.old queue.now tail }
-    requires starts_in_bounds { (vertices starts.now ≤ length support.old) × (vertices starts.now ≤ length struck.old) }
-    ensures weighed { Weighed (vertices starts.now) levels.now (marked marks.new) (state marks.new support.new struck.new result) }
-    ensures candidates { (v : ℕ) → marked marks.new v ≡ member v (take tail queue.now) }
-    ensures counted { let reached = take tail queue.now in
+    requires queued { Queued (vertices starts.now) marks.old queue.now.places queue.now.tail }
+    requires starts_in_bounds { (vertices starts.now ≤ length support.old.counts) × (vertices starts.now ≤ length support.old.struck.places) }
+    ensures weighed { Weighed (vertices starts.now) levels.now (marked marks.new) (state_of marks.new support.new) }
+    ensures candidates { (v : ℕ) → marked marks.new v ≡ member v (take queue.now.tail queue.now.places) }
+    ensures counted { let reached = take queue.now.tail queue.now.places in
         let supporters : ℕ → ℕ = λ v. count (supports_of anchored.now levels.now (λ p. member p reached) x v) (neighbors_of starts.now links.now v) in
-        ((v : ℕ) → In v reached → get_or support.new v 0 ≡ supporters v) }
+        ((v : ℕ) → In v reached → get_or support.new.counts v 0 ≡ supporters v) }
 {
-    let mut end: usize = 0;
-    let mut i: usize = 0;
-    while i < tail {
-        let v = queue[i] as usize;
-        support[v] = count_supporters(starts, links, anchored, levels, marks, x, v);
-        end = strike(levels, support, v, marks, struck, end);
-        i += 1;
+    support.struck.tail = 0;
+    for next in &queue.places[..queue.tail] {
+        let v = *next as usize;
+        support.counts[v] = count_supporters(starts, links, anchored, levels, marks, x, v);
+        support.strike(levels, v, marks);
     }
-    end
 }
 
 // How many neighbors support v.
@@ -58,17 +103,15 @@ fn count_supporters(
     requires v_bound { v < vertices starts.now }
     ensures { result ≡ count (supports_of anchored.now levels.now (marked marks.now) x v) (neighbors_of starts.now links.now v) }
 {
-    let part = table::neighbors(starts, links, v);
     let mut total: u16 = 0;
-    let mut j: usize = 0;
-    while j < part.len() {
-        total += supports(anchored, levels, marks, x, v, part[j] as usize) as u16;
-        j += 1;
+    for p in table::neighbors(starts, links, v) {
+        total += supports(anchored, levels, marks, x, v, *p as usize) as u16;
     }
     total
 }
 
 // Whether p supports v: it is anchored, or x, or of higher level, or a candidate of the same level.
+#[tactic(auto, unfolding(crate::specs::Striking::supports_of))]
 fn supports(
     anchored: &[u8],
     levels: &[u16],
@@ -83,95 +126,32 @@ fn supports(
     requires p_bound { p < 1024 }
     ensures { result ≡ supports_of anchored.now levels.now (marked marks.now) x v p }
 {
-    if anchored[p] == 1 {
-        return true;
-    }
-    if x == p {
-        return true;
-    }
-    if is_higher(levels, p, v) {
-        return true;
-    }
-    if marks[p] == 0 {
-        return false;
-    }
-    levels[p] == levels[v]
+    anchored[p] == 1
+        || x == p
+        || is_higher(levels, p, v)
+        || (marks[p] != 0 && levels[p] == levels[v])
 }
 
-// Strikes out until every candidate still in has enough support; how many are struck out in all.
+// Strikes out until every candidate still in has enough support.
 pub fn settle(
     starts: &[u16],
     links: &[u16],
     levels: &[u16],
     marks: &mut [u8; 1024],
-    support: &mut [u16; 1024],
-    struck: &mut [u16; 1024],
-    weak: usize,
-) -> usize
+    support: &mut Support,
+)
     requires sound_table { SoundTable starts.now links.now }
     requires starts_in_bounds { vertices starts.now ≤ length levels.now }
-    requires weighed { Weighed (vertices starts.now) levels.now (marked marks.old) (state marks.old support.old struck.old weak) }
-    ensures { Settled starts.now links.now levels.now (λ v. get_or support.old v 0) (marked marks.old) (state marks.new support.new struck.new result) }
+    requires weighed { Weighed (vertices starts.now) levels.now (marked marks.old) (state_of marks.old support.old) }
+    ensures { Settled starts.now links.now levels.now (λ v. get_or support.old.counts v 0) (marked marks.old) (state_of marks.new support.new) }
 {
-    let mut end = weak;
     let mut head: usize = 0;
-    while head < end {
-        let u = struck[head] as usize;
-        let part = table::neighbors(starts, links, u);
-        let mut j: usize = 0;
-        while j < part.len() {
-            end = weaken(levels, u, part[j] as usize, marks, support, struck, end);
-            j += 1;
+    // Those struck out are read while more are.
+    while head < support.struck.tail {
+        let u = support.struck.places[head] as usize;
+        for w in table::neighbors(starts, links, u) {
+            support.weaken(levels, u, *w as usize, marks);
         }
         head += 1;
     }
-    end
-}
-
-// u, struck out, no longer supports its neighbor w: if w is of its level and still in, w loses a supporter, and may be struck out too.
-fn weaken(
-    levels: &[u16],
-    u: usize,
-    w: usize,
-    marks: &mut [u8; 1024],
-    support: &mut [u16; 1024],
-    struck: &mut [u16; 1024],
-    end: usize,
-) -> usize
-    requires u_in_bounds { u < length levels.now }
-    requires w_in_bounds { w < length levels.now }
-    requires w_bound { w < 1024 }
-    requires nonzero { get_or marks.old w 0 ≡ 2 → (0 < get_or support.old w 0) × (end < 1024) }
-    ensures { state marks.new support.new struck.new result ≡ weaken_of levels.now u w (state marks.old support.old struck.old end) }
-{
-    if marks[w] != 2 {
-        return end;
-    }
-    if levels[w] != levels[u] {
-        return end;
-    }
-    support[w] -= 1;
-    strike(levels, support, w, marks, struck, end)
-}
-
-// Strikes v out if its support does not exceed its level; the new end of the list of those struck out.
-fn strike(
-    levels: &[u16],
-    support: &[u16; 1024],
-    v: usize,
-    marks: &mut [u8; 1024],
-    struck: &mut [u16; 1024],
-    end: usize,
-) -> usize
-    requires v_in_bounds { v < length levels.now }
-    requires v_bound { v < 1024 }
-    requires end_bound { end < 1024 }
-    ensures { state marks.new support.now struck.new result ≡ strike_of levels.now v (state marks.old support.now struck.old end) }
-{
-    if levels[v] < support[v] {
-        return end;
-    }
-    marks[v] = 1;
-    struck[end] = v as u16;
-    end + 1
 }
