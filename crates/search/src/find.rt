@@ -7,6 +7,9 @@ ghost use Rattle.pool.specs.Input.{graph_of, anchored_by};
 ghost use Rattle.pool.specs.Arrays.{Holds};
 ghost use Rattle.pool.specs.Sheet.{Sheet};
 
+use candidates::Queue;
+use support::Support;
+
 // How many the search lifts, and how many it reaches.
 #[derive(Drop)]
 pub struct Found {
@@ -31,34 +34,24 @@ pub fn search(
     ensures lifted { result.lifted ≡ followers_of (graph_of starts.now links.now) (anchored_by anchored.now) x }
     ensures reached { result.reached ≡ reached_of (graph_of starts.now links.now) (anchored_by anchored.now) x }
 {
-    let mut queue = [0u16; 1024];
-    let mut support = [0u16; 1024];
-    let mut struck = [0u16; 1024];
+    let mut queue = Queue::new();
+    let mut support = Support::new();
     *marks = [0u8; 1024];
-    let reached = candidates::reach(
+    candidates::reach(
         starts, links, anchored, levels, layers, x, marks, &mut queue,
     );
-    let weak = support::weigh(
+    support::weigh(
         starts,
         links,
         anchored,
         levels,
         x,
         &queue,
-        reached,
         marks,
         &mut support,
-        &mut struck,
     );
-    let gone = support::settle(
-        starts,
-        links,
-        levels,
-        marks,
-        &mut support,
-        &mut struck,
-        weak,
-    );
-    let lifted = reached - gone;
+    support::settle(starts, links, levels, marks, &mut support);
+    let reached = queue.tail;
+    let lifted = reached - support.struck.tail;
     Found { lifted, reached }
 }
