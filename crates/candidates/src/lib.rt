@@ -1,7 +1,7 @@
 // The candidates of a vertex: those that an upstair walk from it reaches, put into a queue one after the other.
 #![tactic(auto)]
 
-ghost use Rattle.std.specs.Prelude.{◌≡◌, ◌+◌, ◌<◌, length, set, take, replicate};
+ghost use Rattle.std.specs.Prelude.{◌≡◌, ◌+◌, ◌≤◌, ◌<◌, length, set, take, replicate};
 ghost use Rattle.table.specs.Table.{vertices, neighbors as neighbors_of};
 ghost use Rattle.pool.specs.Sheet.{Sheet};
 ghost use Rattle.candidates.specs.Reaching.{is_first, steps_of, visit_all, Queued, Reached};
@@ -32,6 +32,14 @@ impl Queue {
             places: [0; 1024],
             tail: 0,
         }
+    }
+
+    // The vertices in it.
+    pub fn as_slice(&self) -> &[u16]
+        requires { self.now.tail ≤ 1024 }
+        ensures { result.now ≡ take self.now.tail self.now.places }
+    {
+        &self.places[..self.tail]
     }
 
     // Puts v at the end.

@@ -82,7 +82,7 @@ pub fn weigh(
         ((v : ℕ) → In v reached → get_or support.new.counts v 0 ≡ supporters v) }
 {
     support.struck.tail = 0;
-    for next in &queue.places[..queue.tail] {
+    for next in queue.as_slice() {
         let v = *next as usize;
         support.counts[v] = count_supporters(starts, links, anchored, levels, marks, x, v);
         support.strike(levels, v, marks);
