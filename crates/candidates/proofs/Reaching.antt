@@ -8,7 +8,7 @@ use native.Mathlib.Nat.{eq-or-lt_of_le}
 use native.Mathlib.Numerals.{add-one}
 use native.Mathlib.Omega.{arith}
 use lib.ListN.{length, take, get_or, set, replicate, length-append, length-set, length-replicate, get_or-append}
-use lib.Seq.{length-take-le, take-suc, take-suc-set, take_all, get_or-take, get_or-set_same, get_or-set_other}
+use lib.Seq.{length-take-le, take-suc, take-suc-set, get_or-take, get_or-set_same, get_or-set_other}
 use lib.Dec.{T, eqb, T_not, not_T, eqb→eq}
 use Rattle.finite.specs.Count.{In}
 use Rattle.finite.specs.Search.{member}
@@ -140,6 +140,9 @@ module _ {n : ℕ} {marks queue : List ℕ} {tail : ℕ} (k : Queued n marks que
   -- what stands at its places are vertices
   pub queue_vertex : (i : ℕ) → i < tail → get_or queue i 0 < n
   queue_vertex i h = k.within (get_or queue i 0) (subst (λ v. In v (take tail queue)) (get_or-take tail queue i 0 h) (in_at (take tail queue) i 0 (omega (arith, queue_length))))
+
+  pub queue_items : {items : List ℕ} → items ≡ take tail queue → (i : ℕ) → i < length items → get_or items i 0 < n
+  queue_items {items} e i h = k.within (get_or items i 0) (subst (In (get_or items i 0)) e (in_at items i 0 h))
 
   -- a mark is 0 exactly at the vertices that are not in the queue
   unmarked : (w : ℕ) → get_or marks w 0 ≡ 0 → In w (take tail queue) → ⊥
