@@ -79,18 +79,18 @@ module _ (s l : List ℕ) (passed : check_lent s l ≡ clear) where
   links-sound : SoundTable s links
   links-sound = sound s links past.2
 
-  enough : last_start s ≤ length l
-  enough = omega (arith, past.0, past.1)
+  pub lent-within : last_start s ≤ length l
+  lent-within = omega (arith, past.0, past.1)
 
   read : (i : ℕ) → i < last_start s → get_or l i 0 ≡ get_or links i 0
   read i h = sym (get_or-take (last_start s) l i 0 h)
 
   -- a table, with all its places as with the links alone
   pub lent-sound : SoundTable s l
-  lent-sound = other-sound links-sound.framed l enough read links-sound (omega (arith, past.0))
+  lent-sound = other-sound links-sound.framed l lent-within read links-sound (omega (arith, past.0))
 
   pub lent_cut : graph_of s (take (last_start s) l) ≡ graph_of s l
-  lent_cut = sym (other-graph links-sound.framed l enough read)
+  lent_cut = sym (other-graph links-sound.framed l lent-within read)
 
   first-start : get_or s 0 0 ≡ 0
   first-start = (ends s links past.2).0
@@ -107,7 +107,7 @@ module _ (s l : List ℕ) (passed : check_lent s l ≡ clear) where
   zeroed_full = length-tabulate (zeroed_at l (last_start s)) (length l) ∙ past.0
 
   zeroed-same : (i : ℕ) → i < last_start s → get_or zeroed i 0 ≡ get_or l i 0
-  zeroed-same i h = let most = enough in
+  zeroed-same i h = let most = lent-within in
       tabulate-at (zeroed_at l (last_start s)) (length l) i (omega arith) ∙ ap (λ t. cond t (get_or l i 0) 0) (lt-ltb i (last_start s) h)
 
   zeroed-zeros : (i : ℕ) → last_start s ≤ i → get_or zeroed i 0 ≡ 0

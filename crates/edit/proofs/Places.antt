@@ -4,14 +4,17 @@ use mathlib.Core.Bool.{Bool}
 use mathlib.Core.List.{List, ◌∷◌, ◌++◌}
 use Prim.Native.Nat.{ℕ, suc, ◌+◌, ◌-◌, ◌≤◌, ◌<◌}
 use native.Mathlib.Omega.{arith}
-use lib.ListN.{length, take, drop, get_or, get_or-eq_default}
+use lib.ListN.{length, take, drop, get_or}
 use lib.Dec.{T, leb, ltb, leb→le, le→leb, nleb→lt, ltb→lt, nltb→le}
+use Rattle.std.specs.List.{position}
+use Rattle.std.specs.Option.{unwrap_or}
+use Rattle.std.proofs.lemmas.List.Sums.{position_or_len_is}
 use Rattle.finite.specs.Count.{In, tabulate}
 use Rattle.finite.specs.Search.{ascending}
 use Rattle.finite.specs.Edits.{insert, remove}
-use Rattle.finite.proofs.Tests.{split}
+use Rattle.finite.proofs.Tests.{split, true_of, false_of}
 use Rattle.finite.proofs.Count.{in_at, at_in}
-use Rattle.finite.proofs.Search.{first-le, first-before, first_passes, first-least, ascending-lt}
+use Rattle.finite.proofs.Search.{first-le, first_below, first-before, first_passes, first-least, ascending-lt}
 use Rattle.finite.proofs.Edits.{insert-place, remove-place}
 use Rattle.table.specs.Table.{vertices, neighbors}
 use Rattle.table.proofs.Laws.{neighbors-length}
@@ -34,6 +37,14 @@ module _ (N : List ℕ) (w : ℕ) where
 
   smaller : (i : ℕ) → i < k → get_or N i 0 < w
   smaller i h = nleb→lt w (get_or N i 0) (first-before reaches (length N) i h)
+
+  -- it is the first position where w is reached, or the length
+  pub place_found : unwrap_or (position (leb w) N) (length N) ≡ k
+  place_found =
+      let at = position_or_len_is (leb w) N k 0 place-le (first_below reaches (length N)) (λ h. true_of (reaches k) (first_passes reaches (length N) h)) in
+      rw at (split (ltb k (length N))
+      (λ t. rw (true_of (ltb k (length N)) t))
+      (λ t. rw (false_of (ltb k (length N)) t) (omega (arith, place-le, nltb→le k (length N) t))))
 
   -- a number that does not stand in the list goes there
   pub placed : (In w N → ⊥) → insert w N ≡ take k N ++ w ∷ drop k N
@@ -62,11 +73,6 @@ module _ (N : List ℕ) (w : ℕ) where
 -- ---- in a table
 
 module _ {s l : List ℕ} (P : Padded s l) where
-  pub starts-few : (i : ℕ) → get_or s i 0 ≤ 16384
-  starts-few i = split (ltb i (length s))
-      (λ t. omega (arith, ltb→lt i (length s) t, P.framed.within i (omega (arith, ltb→lt i (length s) t)), P.few))
-      (λ t. omega (arith, get_or-eq_default s 0 (nltb→le i (length s) t)))
-
   module _ (v w : ℕ) (hv : v < vertices s) where
     abbrev N : List ℕ
     N = neighbors s l v

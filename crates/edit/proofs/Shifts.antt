@@ -1,38 +1,47 @@
--- The loops that store starts and links, place by place: begun, one place more, done. Assumes nothing.
+-- Starts and links as they are stored: one link more or less behind a vertex, one put in at a place or taken out, zeros at the end. Assumes nothing.
 use mathlib.Core.Path.{◌≡◌, sym, ap, ◌∙◌}
 use mathlib.Core.Bool.{cond}
-use mathlib.Core.List.{List, ◌++◌}
+use mathlib.Core.List.{List}
 use Prim.Native.Nat.{ℕ, ◌+◌, ◌-◌, ◌≤◌, ◌<◌}
 use native.Mathlib.Omega.{arith}
-use lib.ListN.{length, drop, get_or, set}
-use lib.Dec.{eqb}
+use lib.ListN.{length, get_or, set, replicate, length-set, length-append, length-drop, length-replicate}
+use lib.Seq.{ext_get_or, length-take-le}
+use borrow.Rule.Slice.PartMut.{put_mid}
+use borrow.Author.Rules.{rules}
+use Rattle.std.proofs.lemmas.List.{places}
+use lib.Dec.{ltb, eqb, ltb→lt, nltb→le, eqb→eq}
 use borrow.Author.Tests.{lt-ltb, le-ltb, eq-eqb, ne_eqb}
+use Rattle.std.specs.List.{SameBelow, SameFrom, CopiedTo}
 use Rattle.finite.specs.Count.{bit, tabulate}
-use Rattle.finite.proofs.Count.{fill_more, fill_here}
-use Rattle.finite.proofs.Edits.{fill_from, fill_past, fill_upto}
+use Rattle.finite.proofs.Tests.{split, true_of, false_of, neqb}
+use Rattle.finite.proofs.Count.{length-tabulate, tabulate-at, set_reads, zeros-at}
 use Rattle.edit.specs.Edit.{raised_at, lowered_at, put_at, taken_at}
 use Rattle.edit.specs.Lent.{zeroed_at}
 
+-- a list that holds f at each of its places is the table of f
+pub stored : (f : ℕ → ℕ) (e : List ℕ) (n : ℕ) → length e ≡ n → ((i : ℕ) → i < n → get_or e i 0 ≡ f i) → e ≡ tabulate f n
+stored f e n long reads =
+    let all = length-tabulate f n in
+    ext_get_or 0 e (tabulate f n) (omega arith) (λ i h. let b : i < n = omega arith in reads i b ∙ sym (tabulate-at f n i b))
+
+-- the same list with x stored at place p
+stored_at : (f : ℕ → ℕ) (m : List ℕ) (p x n : ℕ) → length m ≡ n → p < n → x ≡ f p → ((i : ℕ) → (p ≡ i → ⊥) → i < n → get_or m i 0 ≡ f i) → set m p x ≡ tabulate f n
+stored_at f m p x n long h e reads = stored f (set m p x) n (omega (arith, length-set m p x)) (λ i b. set_reads m p x i (λ q. omega arith) ∙ split (eqb p i)
+    (λ t. rw (true_of (eqb p i) t) (e ∙ ap f (eqb→eq p i t)))
+    (λ t. rw (false_of (eqb p i) t) (reads i (neqb p i t) b)))
+
 -- ---- starts
 
-module _ (s : List ℕ) (v : ℕ) where
-  pub raise_begin : v < length s → s ≡ tabulate (raised_at s v) (v + 1) ++ drop (v + 1) s
-  raise_begin h = fill_from (raised_at s v) s (v + 1) (omega arith) (λ j b. omega (arith, ap bit (le-ltb v j (omega arith))))
+module _ (s e : List ℕ) (v : ℕ) (long : length e ≡ length s) (before : (i : ℕ) → i ≤ v → get_or e i 0 ≡ get_or s i 0) where
+  pub raised : ((i : ℕ) → v < i → i < length s → get_or e i 0 ≡ get_or s i 0 + 1) → e ≡ tabulate (raised_at s v) (length s)
+  raised behind = stored (raised_at s v) e (length s) long (λ i b. split (ltb v i)
+      (λ t. omega (arith, behind i (ltb→lt v i t) b, ap bit (true_of (ltb v i) t)))
+      (λ t. omega (arith, before i (nltb→le v i t), ap bit (false_of (ltb v i) t))))
 
-  pub raise_more : (e : List ℕ) (i : ℕ) → v < i → i < length s → e ≡ tabulate (raised_at s v) i ++ drop i s
-      → set e i (get_or e i 0 + 1) ≡ tabulate (raised_at s v) (i + 1) ++ drop (i + 1) s
-  raise_more e i h b q =
-      let here : get_or e i 0 + 1 ≡ raised_at s v i = omega (arith, fill_here (raised_at s v) s e i q b, ap bit (lt-ltb v i h)) in
-      ap (set e i) here ∙ fill_more (raised_at s v) s e i q b
-
-  pub lower_begin : v < length s → s ≡ tabulate (lowered_at s v) (v + 1) ++ drop (v + 1) s
-  lower_begin h = fill_from (lowered_at s v) s (v + 1) (omega arith) (λ j b. omega (arith, ap bit (le-ltb v j (omega arith))))
-
-  pub lower-more : (e : List ℕ) (i : ℕ) → v < i → i < length s → e ≡ tabulate (lowered_at s v) i ++ drop i s
-      → set e i (get_or e i 0 - 1) ≡ tabulate (lowered_at s v) (i + 1) ++ drop (i + 1) s
-  lower-more e i h b q =
-      let here : get_or e i 0 - 1 ≡ lowered_at s v i = omega (arith, fill_here (lowered_at s v) s e i q b, ap bit (lt-ltb v i h)) in
-      ap (set e i) here ∙ fill_more (lowered_at s v) s e i q b
+  pub lowered : ((i : ℕ) → v < i → i < length s → get_or e i 0 ≡ get_or s i 0 - 1) → e ≡ tabulate (lowered_at s v) (length s)
+  lowered behind = stored (lowered_at s v) e (length s) long (λ i b. split (ltb v i)
+      (λ t. omega (arith, behind i (ltb→lt v i t) b, ap bit (true_of (ltb v i) t)))
+      (λ t. omega (arith, before i (nltb→le v i t), ap bit (false_of (ltb v i) t))))
 
 -- ---- links
 
@@ -40,29 +49,27 @@ module _ (l : List ℕ) (p w : ℕ) where
   put_before : (j : ℕ) → j < p → put_at l p w j ≡ get_or l j 0
   put_before j h = ap (λ t. cond t (get_or l j 0) (cond (eqb j p) w (get_or l (j - 1) 0))) (lt-ltb j p h)
 
+  put_here : put_at l p w p ≡ w
+  put_here =
+      ap (λ t. cond t (get_or l p 0) (cond (eqb p p) w (get_or l (p - 1) 0))) (le-ltb p p (omega arith))
+      ∙ ap (λ t. cond t w (get_or l (p - 1) 0)) (eq-eqb p p (omega arith))
+
   put_behind : (j : ℕ) → p < j → put_at l p w j ≡ get_or l (j - 1) 0
   put_behind j h =
       ap (λ t. cond t (get_or l j 0) (cond (eqb j p) w (get_or l (j - 1) 0))) (le-ltb j p (omega arith))
       ∙ ap (λ t. cond t w (get_or l (j - 1) 0)) (ne_eqb j p (λ e. absurd (omega arith)))
 
-  pub open_held : w ≡ put_at l p w p
-  open_held = sym (ap (λ t. cond t (get_or l p 0) (cond (eqb p p) w (get_or l (p - 1) 0))) (le-ltb p p (omega arith)) ∙ ap (λ t. cond t w (get_or l (p - 1) 0)) (eq-eqb p p (omega arith)))
-
-  pub open_begin : p ≤ length l → l ≡ tabulate (put_at l p w) p ++ drop p l
-  open_begin h = fill_from (put_at l p w) l p h (λ j b. sym (put_before j b))
-
-  -- the link held is stored, and the one that stood there held
-  pub open_next : (e : List ℕ) (i : ℕ) → p ≤ i → e ≡ tabulate (put_at l p w) i ++ drop i l → get_or e i 0 ≡ put_at l p w (i + 1)
-  open_next e i h q = let back : i + 1 - 1 ≡ i = omega arith in
-      fill_past (put_at l p w) l e i i q (omega arith) ∙ sym (put_behind (i + 1) (omega arith) ∙ ap (λ z. get_or l z 0) back)
-
-  pub open_more : (e : List ℕ) (i held : ℕ) → i < length l → held ≡ put_at l p w i → e ≡ tabulate (put_at l p w) i ++ drop i l
-      → set e i held ≡ tabulate (put_at l p w) (i + 1) ++ drop (i + 1) l
-  open_more e i held b k q = ap (set e i) k ∙ fill_more (put_at l p w) l e i q b
-
-  -- behind the last link all are zeros, moved or not
-  pub open_end : (last : ℕ) → p ≤ last → last < length l → ((i : ℕ) → last ≤ i → get_or l i 0 ≡ 0) → tabulate (put_at l p w) (last + 1) ++ drop (last + 1) l ≡ tabulate (put_at l p w) (length l)
-  open_end last h b zeros = fill_upto (put_at l p w) l (last + 1) (omega arith) (λ j k c. zeros j (omega arith) ∙ sym (put_behind j (omega arith) ∙ zeros (j - 1) (omega arith)))
+  -- the links from p on are moved up by one, and w is stored there; behind the last link all are zeros, moved or not
+  pub opened : (m : List ℕ) (last : ℕ) → p ≤ last → last < length l → ((i : ℕ) → last ≤ i → get_or l i 0 ≡ 0) → length m ≡ length l
+      → CopiedTo l m p (p + 1) (last - p) × SameBelow l m (p + 1) × SameFrom l m (p + 1 + (last - p)) → set m p w ≡ tabulate (put_at l p w) (length l)
+  opened m last h b zeros long moves = stored_at (put_at l p w) m p w (length l) long (omega arith) (sym put_here) (λ i other k. split (ltb i p)
+      (λ t. let before = ltb→lt i p t in moves.1 i 0 (omega arith) ∙ sym (put_before i before))
+      (λ t. let behind : p < i = omega (arith, nltb→le i p t) in split (ltb last i)
+      (λ u. let far = ltb→lt last i u in moves.2 i 0 (omega arith) ∙ zeros i (omega arith) ∙ sym (put_behind i behind ∙ zeros (i - 1) (omega arith)))
+      (λ u.
+      let near = nltb→le last i u in
+      let back : p + (i - (p + 1)) ≡ i - 1 = omega arith in
+      moves.0 i 0 (omega arith) (omega arith) ∙ ap (λ z. get_or l z 0) back ∙ sym (put_behind i behind))))
 
 module _ (l : List ℕ) (p : ℕ) where
   taken_before : (j : ℕ) → j < p → taken_at l p j ≡ get_or l j 0
@@ -71,27 +78,32 @@ module _ (l : List ℕ) (p : ℕ) where
   taken_from : (j : ℕ) → p ≤ j → taken_at l p j ≡ get_or l (j + 1) 0
   taken_from j h = ap (λ t. cond t (get_or l j 0) (get_or l (j + 1) 0)) (le-ltb j p h)
 
-  pub close_begin : p ≤ length l → l ≡ tabulate (taken_at l p) p ++ drop p l
-  close_begin h = fill_from (taken_at l p) l p h (λ j b. sym (taken_before j b))
-
-  pub close_more : (e : List ℕ) (i : ℕ) → p ≤ i → i < length l → e ≡ tabulate (taken_at l p) i ++ drop i l
-      → set e i (get_or e (i + 1) 0) ≡ tabulate (taken_at l p) (i + 1) ++ drop (i + 1) l
-  close_more e i h b q =
-      ap (set e i) (fill_past (taken_at l p) l e i (i + 1) q (omega arith) ∙ sym (taken_from i h)) ∙ fill_more (taken_at l p) l e i q b
-
-  -- the last one gets a zero, and behind it all are zeros
-  pub close_end : (e : List ℕ) (i last : ℕ) → p ≤ i → i + 1 ≡ last → last ≤ length l → ((j : ℕ) → last ≤ j → get_or l j 0 ≡ 0) → e ≡ tabulate (taken_at l p) i ++ drop i l
-      → set e i 0 ≡ tabulate (taken_at l p) (length l)
-  close_end e i last h k b zeros q =
-      ap (set e i) (sym (taken_from i h ∙ zeros (i + 1) (omega arith)))
-      ∙ fill_more (taken_at l p) l e i q (omega arith)
-      ∙ fill_upto (taken_at l p) l (i + 1) (omega arith) (λ j c d. zeros j (omega arith) ∙ sym (taken_from j (omega arith) ∙ zeros (j + 1) (omega arith)))
+  -- the links behind p are moved down by one, and the last one gets a zero; behind it all are zeros
+  pub closed : (m : List ℕ) (last : ℕ) → p < last → last ≤ length l → ((i : ℕ) → last ≤ i → get_or l i 0 ≡ 0) → length m ≡ length l
+      → CopiedTo l m (p + 1) p (last - (p + 1)) × SameBelow l m p × SameFrom l m (p + (last - (p + 1))) → set m (last - 1) 0 ≡ tabulate (taken_at l p) (length l)
+  closed m last h b zeros long moves = stored_at (taken_at l p) m (last - 1) 0 (length l) long (omega arith) (sym (taken_from (last - 1) (omega arith) ∙ zeros (last - 1 + 1) (omega arith)))
+      (λ i other k. split (ltb i p)
+      (λ t. let before = ltb→lt i p t in moves.1 i 0 before ∙ sym (taken_before i before))
+      (λ t. let behind = nltb→le i p t in split (ltb i last)
+      (λ u.
+      let near = ltb→lt i last u in
+      let back : p + 1 + (i - p) ≡ i + 1 = omega arith in
+      moves.0 i 0 behind (omega arith) ∙ ap (λ z. get_or l z 0) back ∙ sym (taken_from i behind))
+      (λ u. let far = nltb→le i last u in moves.2 i 0 (omega arith) ∙ zeros i far ∙ sym (taken_from i behind ∙ zeros (i + 1) (omega arith)))))
 
 -- ---- zeros
 
-module _ (l : List ℕ) (last : ℕ) where
-  pub zero_begin : last ≤ length l → l ≡ tabulate (zeroed_at l last) last ++ drop last l
-  zero_begin h = fill_from (zeroed_at l last) l last h (λ j b. sym (ap (λ t. cond t (get_or l j 0) 0) (lt-ltb j last b)))
-
-  pub zero_more : (e : List ℕ) (i : ℕ) → last ≤ i → i < length l → e ≡ tabulate (zeroed_at l last) i ++ drop i l → set e i 0 ≡ tabulate (zeroed_at l last) (i + 1) ++ drop (i + 1) l
-  zero_more e i h b q = ap (set e i) (sym (ap (λ t. cond t (get_or l i 0) 0) (le-ltb i last h))) ∙ fill_more (zeroed_at l last) l e i q b
+-- the part from `last` on is overwritten with zeros
+pub zeroed : (l part : List ℕ) (last : ℕ) → last ≤ length l → part ≡ replicate (length l - last) 0 → put_mid last (length l - last) l part ≡ tabulate (zeroed_at l last) (length l)
+zeroed l part last h e =
+    let many : length part ≡ length l - last = ap length e ∙ length-replicate {A = ℕ} (length l - last) 0 in
+    let long : length (put_mid last (length l - last) l part) ≡ length l = simp (length-append, length-drop) (omega (arith, length-take-le last l h)) in
+    stored (zeroed_at l last) (put_mid last (length l - last) l part) (length l) long (λ i b. split (ltb i last)
+    (λ t.
+    let before = ltb→lt i last t in
+    let same : get_or (put_mid last (length l - last) l part) i 0 ≡ get_or l i 0 = search (rules, places) in
+    same ∙ sym (ap (λ z. cond z (get_or l i 0) 0) (lt-ltb i last before)))
+    (λ t.
+    let from = nltb→le i last t in
+    let here : get_or (put_mid last (length l - last) l part) i 0 ≡ get_or part (i - last) 0 = search (rules, places) in
+    here ∙ ap (λ z. get_or z (i - last) 0) e ∙ zeros-at (length l - last) (i - last) ∙ sym (ap (λ z. cond z (get_or l i 0) 0) (le-ltb i last from))))

@@ -19,6 +19,10 @@ adds-asked : (adding : Bool) (a b : ℕ) → adds (edge_event adding a b) ≡ ad
 adds-asked true a b = refl
 adds-asked false a b = refl
 
+same : (b : Bool) → beq b b ≡ true
+same true = refl
+same false = refl
+
 module _ {s l : List ℕ} (table : Tabled s l (graph_of s l)) (adding : Bool) (a b : ℕ) where
   abbrev status : ℕ
   status = edge_status (graph_of s l) (edge_event adding a b)
@@ -45,17 +49,16 @@ module _ {s l : List ℕ} (table : Tabled s l (graph_of s l)) (adding : Bool) (a
       of_vertices = rw (adds-asked adding a b, ne_eqb a b other, lt-ltb a (vertices s) ha, lt-ltb b (vertices s) hb)
 
       -- the edge is there already, or is not there
-      pub status_vain : beq there adding ≡ true → status ≡ 22
-      status_vain e = of_vertices ∙ rw e
+      pub status-vain : there ≡ adding → status ≡ 22
+      status-vain e = of_vertices ∙ rw (e, same adding)
 
-      module _ (due : beq there adding ≡ false) where
-        pub status_dropped : adding ≡ false → status ≡ 0
-        status_dropped e = of_vertices ∙ rw (due, e)
+      pub status-dropped : there ≡ true → adding ≡ false → status ≡ 0
+      status-dropped t e = of_vertices ∙ rw (t, e)
 
-        -- the last start tells whether there is space
-        module _ (e : adding ≡ true) where
-          pub status_full : 16382 < last_start s → status ≡ 23
-          status_full h = of_vertices ∙ rw (due, e, lt-ltb 16384 (link_count (graph_of s l) + 2) (omega (arith, link-count table)))
+      -- the last start tells whether there is space
+      module _ (f : there ≡ false) (e : adding ≡ true) where
+        pub status-full : 16382 < last_start s → status ≡ 23
+        status-full h = of_vertices ∙ rw (f, e, lt-ltb 16384 (link_count (graph_of s l) + 2) (omega (arith, link-count table)))
 
-          pub status-added : last_start s ≤ 16382 → status ≡ 0
-          status-added h = of_vertices ∙ rw (due, e, le-ltb 16384 (link_count (graph_of s l) + 2) (omega (arith, link-count table)))
+        pub status-added : last_start s ≤ 16382 → status ≡ 0
+        status-added h = of_vertices ∙ rw (f, e, le-ltb 16384 (link_count (graph_of s l) + 2) (omega (arith, link-count table)))

@@ -1,3 +1,4 @@
 pub mod Edit
 pub mod Lent
 pub mod Cases
+pub mod Change

@@ -32,9 +32,5 @@ pub fn zero_behind(starts: &[u16], links: &mut [u16])
     ensures { Tabled starts.now links.new (graph_of starts.now links.old) }
 {
     let last = starts[starts.len() - 1] as usize;
-    let mut i = last;
-    while i < links.len() {
-        links[i] = 0;
-        i += 1;
-    }
+    links[last..].fill(0);
 }

@@ -5,21 +5,7 @@ ghost use Rattle.finite.specs.Search.{ascending};
 ghost use Rattle.finite.specs.Edits.{insert, remove};
 ghost use Rattle.table.specs.Table.{vertices};
 ghost use Rattle.table.specs.Table.{neighbors as neighbors_of};
-ghost use Rattle.edit.specs.Edit.{last_start, Padded, raised_at, lowered_at, put_at, taken_at, place_of, Relisted};
-
-// The first place in the part of a number that is w or more.
-fn place(part: &[u16], w: u16) -> usize
-    ensures { result ≡ place_of part.now w }
-{
-    let mut i: usize = 0;
-    while i < part.len() {
-        if w <= part[i] {
-            return i;
-        }
-        i += 1;
-    }
-    i
-}
+ghost use Rattle.edit.specs.Edit.{last_start, Padded, put_at, taken_at, place_of, Relisted};
 
 // The place among all links of the first neighbor of v that is w or more.
 fn find(starts: &[u16], links: &[u16], v: usize, w: u16) -> usize
@@ -28,33 +14,20 @@ fn find(starts: &[u16], links: &[u16], v: usize, w: u16) -> usize
     ensures { result ≡ get_or starts.now v 0 + place_of (neighbors_of starts.now links.now v) w }
 {
     let part = table::neighbors(starts, links, v);
-    let from = starts[v] as usize;
-    from + place(part, w)
+    let place = part.iter().position(|u| w <= *u).unwrap_or(part.len());
+    starts[v] as usize + place
 }
 
-// One link more for v: the starts behind it rise.
-fn raise(starts: &mut [u16], v: usize)
+// Changes each start behind v.
+fn change_behind<F: Fn(u16) -> u16>(starts: &mut [u16], v: usize, change: F)
     requires v_in_bounds { v < length starts.old }
-    requires by_index { (i : ℕ) → get_or starts.old i 0 < 65535 }
-    ensures { starts.new ≡ tabulate (raised_at starts.old v) (length starts.old) }
+    requires callable { (i : ℕ) → v < i → i < length starts.old → F.pre change (get_or starts.old i 0) }
+    ensures long { length starts.new ≡ length starts.old }
+    ensures before { (i : ℕ) → i ≤ v → get_or starts.new i 0 ≡ get_or starts.old i 0 }
+    ensures behind { (i : ℕ) → v < i → i < length starts.old → F.post change (get_or starts.old i 0) (get_or starts.new i 0) }
 {
-    let mut i = v + 1;
-    while i < starts.len() {
-        starts[i] = starts[i] + 1;
-        i += 1;
-    }
-}
-
-// One link less for v: the starts behind it fall.
-fn lower(starts: &mut [u16], v: usize)
-    requires v_in_bounds { v < length starts.old }
-    requires by_index { (i : ℕ) → v < i → i < length starts.old → 0 < get_or starts.old i 0 }
-    ensures { starts.new ≡ tabulate (lowered_at starts.old v) (length starts.old) }
-{
-    let mut i = v + 1;
-    while i < starts.len() {
-        starts[i] = starts[i] - 1;
-        i += 1;
+    for start in &mut starts[v + 1..] {
+        *start = change(*start);
     }
 }
 
@@ -65,14 +38,8 @@ fn open(links: &mut [u16], p: usize, last: usize, w: u16)
     requires by_index { (i : ℕ) → last ≤ i → get_or links.old i 0 ≡ 0 }
     ensures { links.new ≡ tabulate (put_at links.old p w) (length links.old) }
 {
-    let mut held = w;
-    let mut i = p;
-    while i <= last {
-        let next = links[i];
-        links[i] = held;
-        held = next;
-        i += 1;
-    }
+    links.copy_within(p..last, p + 1);
+    links[p] = w;
 }
 
 // Takes the link at place p out; the links behind it, up to `last`, move down by one, and 0 comes behind them.
@@ -82,12 +49,8 @@ fn close(links: &mut [u16], p: usize, last: usize)
     requires by_index { (i : ℕ) → last ≤ i → get_or links.old i 0 ≡ 0 }
     ensures { links.new ≡ tabulate (taken_at links.old p) (length links.old) }
 {
-    let mut i = p;
-    while i + 1 < last {
-        links[i] = links[i + 1];
-        i += 1;
-    }
-    links[i] = 0;
+    links.copy_within(p + 1..last, p);
+    links[last - 1] = 0;
 }
 
 // Puts w, which is no neighbor of v, into the neighbors of v.
@@ -100,7 +63,7 @@ pub fn put(starts: &mut [u16], links: &mut [u16], v: usize, w: u16)
 {
     let p = find(starts, links, v, w);
     let last = starts[starts.len() - 1] as usize;
-    raise(starts, v);
+    change_behind(starts, v, |start| start + 1);
     open(links, p, last, w);
 }
 
@@ -114,6 +77,6 @@ pub fn take(starts: &mut [u16], links: &mut [u16], v: usize, w: u16)
 {
     let p = find(starts, links, v, w);
     let last = starts[starts.len() - 1] as usize;
-    lower(starts, v);
+    change_behind(starts, v, |start| start - 1);
     close(links, p, last);
 }
