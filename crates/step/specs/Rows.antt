@@ -23,6 +23,13 @@ rows fol rea st = record { followers = fol; reached = rea; stamps = st }
 abbrev pub rows_of : Record → Rows
 rows_of kept = rows kept.followers kept.reached kept.stamp
 
+-- two records differ in their rows alone
+pub record SameElsewhere (old new : Record) : Type 0 where
+  pub anchored : new.anchored ≡ old.anchored
+  pub columns : new.columns ≡ old.columns
+  pub bare : new.bare ≡ old.bare
+  pub reaching : new.reaching ≡ old.reaching
+
 -- the places below u that pass a test hold f, every other place what it held, and there are as many
 pub record Renewed (p : ℕ → Bool) (f : ℕ → ℕ) (old new : List ℕ) (u : ℕ) : Type 0 where
   pub places : (v : ℕ) → get_or new v 0 ≡ cond (ltb v u && p v) (f v) (get_or old v 0)

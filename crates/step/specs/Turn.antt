@@ -6,8 +6,15 @@ use Rattle.anchored.specs.Session.{Row as PlainRow}
 use Rattle.pool.specs.Input.{graph_of}
 use Rattle.records.specs.Record.{Right, plain_of, Stands}
 use Rattle.records.specs.declared.Record.{Record}
+use Rattle.step.specs.declared.Refused.{Refused}
+use Rattle.step.specs.declared.Refused.TheVariants.{NoVertex, Anchored}
 use Rattle.step.specs.declared.Row.{Row}
 use Rattle.step.specs.declared.Stepped.{Stepped}
+
+-- 15 for no vertex, 16 for an anchored one
+abbrev pub refusal_number : Refused → ℕ
+refusal_number NoVertex = 15
+refusal_number Anchored = 16
 
 -- the numbers of a request
 abbrev pub row_as : Row → PlainRow
@@ -16,6 +23,10 @@ row_as row = record { status = row.status; lifted = row.lifted; redone = row.red
 -- what an accepted request leaves: the record and two numbers
 abbrev pub accepting : Record → ℕ → ℕ → Stepped
 accepting kept lifted redone = record { kept = kept; row = record { status = 0; lifted = lifted; redone = redone } }
+
+-- what a refused one leaves: the record as it is, and a status
+abbrev pub refusing : Record → ℕ → Stepped
+refusing kept status = record { kept = kept; row = record { status = status; lifted = 0; redone = 0 } }
 
 -- what request x at a position leaves of a right record: exactly one turn of the plain session; reached counts are kept as before
 pub record Turned (s l : List ℕ) (position x : ℕ) (kept : Record) (left : Stepped) : Type 0 where

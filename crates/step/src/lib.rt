@@ -1,19 +1,37 @@
 // The record of a session after one more request: exactly one turn of the plain session.
 #![tactic(auto)]
 
-ghost use Rattle.std.specs.Prelude.{◌≡◌, ◌≤◌, ◌<◌, length, get_or};
+ghost use Rattle.std.specs.Prelude.{◌≡◌, ◌<◌, get_or};
 ghost use Rattle.table.specs.Table.{vertices};
 ghost use Rattle.pool.specs.Input.{graph_of, anchored_by, Admitted};
 ghost use Rattle.stale.specs.Columns.{ColumnsOf};
 ghost use Rattle.records.specs.Record.{Right};
-ghost use Rattle.step.specs.Turn.{accepting, Turned};
-ghost use Rattle.step.specs.Rows.{rows, Redone, stale_by};
+ghost use Rattle.step.specs.Turn.{refusal_number, accepting, refusing, Turned};
+ghost use Rattle.step.specs.Rows.{rows_of, Redone, stale_by, SameElsewhere};
 
 use records::Record;
-use stale::Columns;
 
-// The three numbers of a request.
-#[derive(Drop)]
+// Why a request is refused.
+#[derive(Clone, Copy, Debug, PartialEq, Eq)]
+pub enum Refused {
+    NoVertex,
+    Anchored,
+}
+
+impl Refused {
+    // The status that C is given.
+    pub fn number(self) -> u16
+        ensures { result ≡ refusal_number self }
+    {
+        match self {
+            Refused::NoVertex => 15,
+            Refused::Anchored => 16,
+        }
+    }
+}
+
+// The three numbers of a request, as C is given them; `accepted` and `refused` below make them.
+#[derive(Clone, Copy, Debug, PartialEq, Eq)]
 pub struct Row {
     pub status: u16,
     pub lifted: u16,
@@ -21,10 +39,40 @@ pub struct Row {
 }
 
 // What a request leaves.
-#[derive(Drop)]
+#[derive(Clone, Copy)]
 pub struct Stepped {
     pub kept: Record,
     pub row: Row,
+}
+
+impl Stepped {
+    // What an accepted request leaves: its record and two numbers.
+    pub fn accepted(kept: Record, lifted: u16, redone: u16) -> Stepped
+        ensures { result ≡ accepting kept lifted redone }
+    {
+        Stepped {
+            kept,
+            row: Row {
+                status: 0,
+                lifted,
+                redone,
+            },
+        }
+    }
+
+    // What a refused one leaves: the record as it was, and its status.
+    pub fn refused(kept: Record, status: u16) -> Stepped
+        ensures { result ≡ refusing kept status }
+    {
+        Stepped {
+            kept,
+            row: Row {
+                status,
+                lifted: 0,
+                redone: 0,
+            },
+        }
+    }
 }
 
 // Whether the row of u is stale: u is marked, and not anchored.
@@ -32,67 +80,42 @@ fn is_stale(anchored: &[u8; 1024], marks: &[u8; 1024], u: usize) -> bool
     requires { u < 1024 }
     ensures { result ≡ stale_by anchored.now marks.now u }
 {
-    if anchored[u] == 1 {
-        return false;
-    }
-    marks[u] == 1
+    anchored[u] != 1 && marks[u] == 1
 }
 
-// The stale rows are counted afresh, with reached counts or without, and stamped, and no other; how many they are.
+// The stale rows are counted afresh, with reached counts if the record keeps them, and stamped, and no other; how many they are.
 pub fn redo(
     starts: &[u16],
     links: &[u16],
-    anchored: &[u8; 1024],
-    columns: Columns,
+    kept: &mut Record,
     marks: &[u8; 1024],
     position: u16,
-    reaching: bool,
-    followers: &mut [u16; 1024],
-    reached: &mut [u16; 1024],
-    stamp: &mut [u16; 1024],
 ) -> usize
-    requires admitted { Admitted starts.now links.now anchored.now }
-    requires columns_of { ColumnsOf (graph_of starts.now links.now) (anchored_by anchored.now) columns }
-    requires starts_in_bounds { vertices starts.now ≤ length followers.old }
-    requires starts_in_bounds_2 { vertices starts.now ≤ length reached.old }
-    requires starts_in_bounds_3 { vertices starts.now ≤ length stamp.old }
-    ensures { let test = stale_by anchored.now marks.now in
-        let before = rows followers.old reached.old stamp.old in
-        let after = rows followers.new reached.new stamp.new in
-        Redone starts.now links.now anchored.now reaching test position before after result (vertices starts.now) }
+    requires admitted { Admitted starts.now links.now kept.old.anchored }
+    requires columns_of { ColumnsOf (graph_of starts.now links.now) (anchored_by kept.old.anchored) kept.old.columns }
+    ensures rows { let a = kept.old.anchored in
+        Redone starts.now links.now a kept.old.reaching (stale_by a marks.now) position (rows_of kept.old) (rows_of kept.new) result (vertices starts.now) }
+    ensures rest { SameElsewhere kept.old kept.new }
 {
-    let n = starts.len() - 1;
-    let level = columns.level;
-    let layer = columns.layer;
-    let mut redone: usize = 0;
-    let mut u: usize = 0;
-    while u < n {
-        if is_stale(anchored, marks, u) {
+    let mut redone = 0;
+    for u in 0..starts.len() - 1 {
+        if is_stale(&kept.anchored, marks, u) {
             let counts = records::afresh::count_row(
-                starts, links, anchored, &level, &layer, u, reaching,
+                starts,
+                links,
+                &kept.anchored,
+                &kept.columns.level,
+                &kept.columns.layer,
+                u,
+                kept.reaching,
             );
-            followers[u] = counts.followers;
-            reached[u] = counts.reached;
-            stamp[u] = position;
+            kept.followers[u] = counts.followers;
+            kept.reached[u] = counts.reached;
+            kept.stamp[u] = position;
             redone += 1;
         }
-        u += 1;
     }
     redone
-}
-
-// What an accepted request leaves.
-pub fn accepted(kept: Record, lifted: u16, redone: u16) -> Stepped
-    ensures { result ≡ accepting kept lifted redone }
-{
-    Stepped {
-        kept,
-        row: Row {
-            status: 0,
-            lifted,
-            redone,
-        },
-    }
 }
 
 // x, not anchored, is anchored too.
@@ -102,70 +125,35 @@ fn accept(starts: &[u16], links: &[u16], kept: Record, x: usize, position: u16) 
     requires x_value { get_or kept.anchored x 0 ≡ 0 }
     ensures { Turned starts.now links.now position x kept result }
 {
-    let bare = kept.bare;
-    let mut anchored = kept.anchored;
-    anchored[x] = 1;
-    let columns = records::afresh::refresh(starts, links, &anchored);
-    let bound = [0u8; 1024];
-    let mut marks = [0u8; 1024];
-    stale::mark_stale(starts, links, kept.columns, columns, &bound, &mut marks);
-    let reaching = kept.reaching;
-    let mut followers = kept.followers;
-    let mut reached = kept.reached;
-    let mut stamp = kept.stamp;
-    let lifted = followers[x];
-    let redone = redo(
+    let mut next = kept;
+    next.anchored[x] = 1;
+    next.columns = records::afresh::refresh(starts, links, &next.anchored);
+    let mut marks = [0; 1024];
+    stale::mark_stale(
         starts,
         links,
-        &anchored,
-        columns,
-        &marks,
-        position,
-        reaching,
-        &mut followers,
-        &mut reached,
-        &mut stamp,
+        kept.columns,
+        next.columns,
+        &[0; 1024],
+        &mut marks,
     );
-    followers[x] = 65535;
-    reached[x] = 65535;
-    stamp[x] = position;
-    let next = Record {
-        anchored,
-        columns,
-        bare,
-        followers,
-        reaching,
-        reached,
-        stamp,
-    };
-    accepted(next, lifted, redone as u16)
+    let redone = redo(starts, links, &mut next, &marks, position);
+    next.followers[x] = 65535;
+    next.reached[x] = 65535;
+    next.stamp[x] = position;
+    Stepped::accepted(next, kept.followers[x], redone as u16)
 }
 
-// One request on a record that is right: 15 for no vertex, 16 for an anchored one, and else accepted.
+// One request on a record that is right: refused for no vertex or an anchored one, and else accepted.
 pub fn step(starts: &[u16], links: &[u16], kept: Record, x: usize, position: u16) -> Stepped
     requires { Right starts.now links.now kept }
     ensures { Turned starts.now links.now position x kept result }
 {
     if starts.len() - 1 <= x {
-        return Stepped {
-            kept,
-            row: Row {
-                status: 15,
-                lifted: 0,
-                redone: 0,
-            },
-        };
+        return Stepped::refused(kept, Refused::NoVertex.number());
     }
-    let anchored = kept.anchored;
-    if anchored[x] == 1 {
-        return Stepped {
-            kept,
-            row: Row {
-                status: 16,
-                lifted: 0,
-                redone: 0,
-            },
-        };
+    if kept.anchored[x] == 1 {
+        return Stepped::refused(kept, Refused::Anchored.number());
     }
     accept(starts, links, kept, x, position)
 }
