@@ -3,19 +3,17 @@
 use mathlib.Core.Path.{◌≡◌, refl, sym, ap, ◌∙◌, subst}
 use mathlib.Core.Bool.{Bool, true, false, not, cond}
 use mathlib.Core.List.{List}
-use Prim.Native.Nat.{ℕ, ◌≤◌, ◌<◌}
+use Prim.Native.Nat.{ℕ, ◌<◌}
 use native.Mathlib.Omega.{arith}
-use lib.ListN.{length}
-use lib.Dec.{T, eqb, eqb→eq}
+use lib.Dec.{T}
 use borrow.Author.Tests.{lt-ltb, ne_eqb}
 use Rattle.finite.specs.Count.{count, below}
-use Rattle.finite.proofs.Tests.{split, neqb}
 use Rattle.table.specs.Table.{vertices}
 use Rattle.anchored.specs.Graph.{Graph, Simple}
 use Rattle.anchored.specs.Edge.{either, Parted}
 use Rattle.anchored.specs.Followers.{followers, follower_count}
 use Rattle.anchored.specs.Step.{recomputed}
-use Rattle.anchored.specs.Events.{Event, event_of, edge_event, Pool, anchors, ends, Editable, edge_status, event_status, edge_graph, edge_stale, event_row, event_turn}
+use Rattle.anchored.specs.Events.{Event, edge_event, Pool, anchors, ends, Editable, edge_status, event_status, edge_graph, edge_stale, event_row, event_turn}
 use Rattle.anchored.proofs.Session.{row_number}
 use Rattle.anchored.proofs.Events.{edge_editable, edge-size, edge-neighbors, renewed-edge, edge-followers, edge-reached, turn-edge, turn-none, row-edge, row-none}
 use Rattle.anchored.proofs.Order.{one-anchor, one-row}
@@ -24,6 +22,9 @@ use Rattle.pool.specs.Input.{graph_of, anchored_by, Admitted}
 use Rattle.pool.specs.Arrays.{Holds}
 use Rattle.pool.proofs.Laws.{simple}
 use Rattle.edit.specs.Edit.{Tabled}
+use Rattle.edit.specs.Change.{status_number}
+use Rattle.edit.specs.declared.status.Refused.{Refused}
+use Rattle.edit.specs.declared.status.Refused.TheVariants.{OwnEdge, NoVertex, NoChange, NoSpace}
 use Rattle.stale.specs.Columns.{ColumnsOf}
 use Rattle.records.specs.Record.{reached_if, row_reached, Right, plain_of, Stands}
 use Rattle.records.specs.declared.Record.{Record}
@@ -37,11 +38,12 @@ use Rattle.events.specs.Renew.{Before, Renews}
 
 -- ---- statuses
 
--- of a kind above 0 and not above 2 an event adds or drops an edge
-pub edge-kind : (kind a b : ℕ) → kind ≤ 2 → (kind ≡ 0 → ⊥) → edge_event (eqb kind 1) a b ≡ event_of kind a b
-edge-kind kind a b few some = split (eqb kind 1)
-    (λ t. let one = eqb→eq kind 1 t in rw one)
-    (λ t. let one = neqb kind 1 t in let two : kind ≡ 2 = omega arith in rw two)
+-- the number of a refusal is above 0
+pub refusal_some : (refused : Refused) → status_number refused ≡ 0 → ⊥
+refusal_some OwnEdge e = absurd (omega arith)
+refusal_some NoVertex e = absurd (omega arith)
+refusal_some NoChange e = absurd (omega arith)
+refusal_some NoSpace e = absurd (omega arith)
 
 -- an edge that may be added or dropped is an accepted event, and anchors nobody
 edge-status : (P : Pool) (adding : Bool) (a b : ℕ) → (event_status P (edge_event adding a b) ≡ edge_status P.graph (edge_event adding a b)) × T (not (anchors (edge_event adding a b)))
@@ -80,12 +82,8 @@ module _ {s₀ l₀ s l : List ℕ} {kept : Record} (right : Right s₀ l₀ kep
   }
 
   -- what working on the record asks of it
-  pub renewable : Admitted s l kept.anchored
-      × (((e.first < vertices s) × (e.second < vertices s)) × ((vertices s ≤ length kept.followers) × ((vertices s ≤ length kept.reached) × (vertices s ≤ length kept.stamp))))
-  renewable = (
-    still_admitted,
-    ((omega (arith, ok.first, size), omega (arith, ok.second, size)), (omega (arith, right.counts_long, size), (omega (arith, right.reaches_long, size), omega (arith, right.stamps_long, size)))),
-  )
+  pub renewable : Admitted s l kept.anchored × ((e.first < vertices s) × (e.second < vertices s))
+  renewable = (still_admitted, (omega (arith, ok.first, size), omega (arith, ok.second, size)))
 
   -- the record was worked out for the graph before
   worked_before : Before s l e.first e.second kept G
