@@ -79,6 +79,9 @@ module _ (s l : List ℕ) (passed : check_lent s l ≡ clear) where
   links-sound : SoundTable s links
   links-sound = sound s links past.2
 
+  pub lent-places : length l ≡ 16384
+  lent-places = past.0
+
   pub lent-within : last_start s ≤ length l
   lent-within = omega (arith, past.0, past.1)
 

@@ -3,7 +3,7 @@ use Rattle.std.proofs.Common.{◌≡◌, ◌-◌, arith, length, replicate, sym,
 use Rattle.pool.specs.Input.{graph_of}
 use Rattle.edit.specs.Edit.{last_start, Tabled}
 use Rattle.edit.proofs.Shifts.{zeroed}
-use Rattle.edit.proofs.Checked.{lent-sound, lent-within, zeroed_tabled}
+use Rattle.edit.proofs.Checked.{lent-sound, lent-places, lent-within, zeroed_tabled}
 use Rattle.edit.proofs.lent.zero_behind.Goals as goal
 
 pub overflow_sub-last : goal.overflow_sub-last
@@ -13,10 +13,10 @@ pub bounds-starts-starts : goal.bounds-starts-starts
 bounds-starts-starts c = omega (arith, (lent-sound _ _ c.requires).framed.some)
 
 pub slice_bounds-fill-count : goal.slice_bounds-fill-count
-slice_bounds-fill-count c = lent-within _ _ c.requires
+slice_bounds-fill-count c = omega (arith, lent-within _ _ c.requires, lent-places _ _ c.requires)
 
 pub slice_bounds-fill-start : goal.slice_bounds-fill-start
-slice_bounds-fill-start c = let h = lent-within _ _ c.requires in search rules
+slice_bounds-fill-start c = let h = lent-within _ _ c.requires in let p = lent-places _ _ c.requires in search rules
 
 pub returns : goal.returns
 returns c =
