@@ -1,4 +1,5 @@
 -- The line of a round: by the marks of a search, and of nobody. Assumes nothing.
+use Rattle.std.proofs.Common.{Option, Some, None}
 use mathlib.Core.Path.{◌≡◌, sym, ap, ◌∙◌}
 use mathlib.Core.Bool.{Bool, false}
 use mathlib.Core.List.{List, ◌++◌}
@@ -15,12 +16,10 @@ use Rattle.anchored.specs.Session.{Plain, row_of}
 use Rattle.anchored.proofs.Session.{mark_two}
 use Rattle.pool.specs.Arrays.{Holds}
 use Rattle.sheet.specs.Line.{sign, sign_at, lifted_by, round_part, retain_part, redone_part, line_of}
-use Rattle.sheet.specs.declared.line.Chosen.{Chosen}
-use Rattle.sheet.specs.declared.line.Chosen.TheVariants.{Vertex, Nobody}
 use Rattle.rounds.specs.Rounds.{round_for, shown}
 
 -- a line shows who is lifted below n alone
-pub line_same : (number : ℕ) (chosen : Chosen) (p q : ℕ → Bool) (n redone : ℕ) → ((v : ℕ) → v < n → p v ≡ q v) → line_of number chosen p n redone ≡ line_of number chosen q n redone
+pub line_same : (number : ℕ) (chosen : Option ℕ) (p q : ℕ → Bool) (n redone : ℕ) → ((v : ℕ) → v < n → p v ≡ q v) → line_of number chosen p n redone ≡ line_of number chosen q n redone
 unfolding line_of
 line_same number chosen p q n redone e =
     ap (λ (z : List ℕ). round_part number ++ retain_part chosen ++ (bytes " (marks " ++ z ++ bytes ")") ++ redone_part redone)
@@ -28,24 +27,24 @@ line_same number chosen p q n redone e =
 
 module _ (G : Graph) (S : Plain) (x : ℕ) where
   -- the round that names a vertex, and no vertex
-  pub round_some : x < G.size → round_for G S x ≡ record { chosen = Vertex x; lifted = follows G S.anchors x; redone = (row_of G S x).redone }
+  pub round_some : x < G.size → round_for G S x ≡ record { chosen = Some x; lifted = follows G S.anchors x; redone = (row_of G S x).redone }
   unfolding round_for
   round_some h = rw (lt-ltb x G.size h)
 
-  pub round_none : x ≡ G.size → round_for G S x ≡ record { chosen = Nobody; lifted = λ v. false; redone = 0 }
+  pub round_none : x ≡ G.size → round_for G S x ≡ record { chosen = None; lifted = λ v. false; redone = 0 }
   unfolding round_for
   round_none z = rw (le-ltb x G.size (omega arith))
 
   -- the marks of the search from x give its line
   pub line_some : (number redone : ℕ) (marks : List ℕ) → x < G.size → Holds marks G.size (mark G S.anchors x) → redone ≡ (row_of G S x).redone
-      → line_of number (Vertex x) (lifted_by marks) G.size redone ≡ shown G.size number (round_for G S x)
+      → line_of number (Some x) (lifted_by marks) G.size redone ≡ shown G.size number (round_for G S x)
   line_some number redone marks h holds row =
-      line_same number (Vertex x) (lifted_by marks) (follows G S.anchors x) G.size redone (λ v b. ap (λ z. eqb z 2) (holds v b) ∙ mark_two G S.anchors x v)
-      ∙ ap (line_of number (Vertex x) (follows G S.anchors x) G.size) row
+      line_same number (Some x) (lifted_by marks) (follows G S.anchors x) G.size redone (λ v b. ap (λ z. eqb z 2) (holds v b) ∙ mark_two G S.anchors x v)
+      ∙ ap (line_of number (Some x) (follows G S.anchors x) G.size) row
       ∙ ap (shown G.size number) (sym (round_some h))
 
   -- no marks give the line of nobody
-  pub line_none : (number m : ℕ) → x ≡ G.size → line_of number Nobody (lifted_by (replicate m 0)) G.size 0 ≡ shown G.size number (round_for G S x)
+  pub line_none : (number m : ℕ) → x ≡ G.size → line_of number None (lifted_by (replicate m 0)) G.size 0 ≡ shown G.size number (round_for G S x)
   line_none number m z =
-      line_same number Nobody (lifted_by (replicate m 0)) (λ v. false) G.size 0 (λ v b. ap (λ (k : ℕ). eqb k 2) (zeros-at m v))
+      line_same number None (lifted_by (replicate m 0)) (λ v. false) G.size 0 (λ v b. ap (λ (k : ℕ). eqb k 2) (zeros-at m v))
       ∙ ap (shown G.size number) (sym (round_none z))

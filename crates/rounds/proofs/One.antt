@@ -5,7 +5,7 @@ use Prim.Native.Nat.{ℕ, zero, suc, ◌≤◌, ◌<◌}
 use native.Mathlib.Omega.{arith}
 use lib.Dec.{T, eqb, ltb, ltb→lt, nltb→le, T_not}
 use borrow.Author.Tests.{eq-eqb, ne_eqb}
-use Rattle.finite.specs.Count.{below, count}
+use Rattle.finite.specs.Count.{below}
 use Rattle.finite.specs.Search.{any}
 use Rattle.finite.proofs.Tests.{and_i, split, true_of, eqb_of}
 use Rattle.finite.proofs.Count.{count-below-le, tabulate_cong}

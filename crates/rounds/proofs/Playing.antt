@@ -1,6 +1,7 @@
 -- A round on a right record, and round after round: what the code holds is what the lines that houses share leave. Assumes nothing.
+use Rattle.std.proofs.Common.{Some, None}
 use mathlib.Core.Path.{◌≡◌, refl, sym, ap, ap₂, ◌∙◌, subst}
-use mathlib.Core.Bool.{Bool, not, cond}
+use mathlib.Core.Bool.{Bool, cond}
 use mathlib.Core.List.{List, [], ◌∷◌, ◌++◌}
 use Prim.Native.Nat.{ℕ, suc, ◌+◌, ◌*◌, ◌≤◌, ◌<◌}
 use native.Mathlib.Nat.{mul-le-mul_right, suc-mul}
@@ -29,7 +30,6 @@ use Rattle.step.specs.declared.Stepped.{Stepped}
 use Rattle.step.proofs.Steps.{stands-turn, refused-vertex}
 use Rattle.sheet.specs.Written.{Written}
 use Rattle.sheet.specs.Line.{Round, lifted_by, line_of, sheet_from, sheet_of}
-use Rattle.sheet.specs.declared.line.Chosen.TheVariants.{Vertex, Nobody}
 use Rattle.sheet.proofs.Written.{written_as, written-length}
 use Rattle.sheet.proofs.Lines.{sheet_length, sheet_turn}
 use Rattle.turns.specs.Choice.{choice_by, yield_in}
@@ -49,12 +49,12 @@ module _ {s l : List ℕ} {kept : Record} (right : Right s l kept) (x number : �
   module _ {o : List ℕ} {at : ℕ} {o_now : List ℕ} {end : ℕ} where
     -- the line written is that of the round, for a vertex and for nobody
     pub written-some : (marks : List ℕ) {left : Stepped} → x < vertices s → Holds marks (vertices s) (mark G (anchored_by kept.anchored) x) → Turned s l number x kept left
-        → Written o at (line_of number (Vertex x) (lifted_by marks) (vertices s) left.row.redone) o_now end
+        → Written o at (line_of number (Some x) (lifted_by marks) (vertices s) left.row.redone) o_now end
         → Written o at (shown (vertices s) number (round_for G (plain_of kept) x)) o_now end
     written-some marks {left} h holds turned w =
         written_as (line_some G (plain_of kept) x number left.row.redone marks h holds (ap (λ z. z.redone) turned.row)) w
 
-    pub written_none : (m : ℕ) → x ≡ vertices s → Written o at (line_of number Nobody (lifted_by (replicate m 0)) (vertices s) 0) o_now end
+    pub written_none : (m : ℕ) → x ≡ vertices s → Written o at (line_of number None (lifted_by (replicate m 0)) (vertices s) 0) o_now end
         → Written o at (shown (vertices s) number (round_for G (plain_of kept) x)) o_now end
     written_none m z w = written_as (line_none G (plain_of kept) x number m z) w
 

@@ -13,7 +13,6 @@ ghost use Rattle.rounds.specs.Rounds.{shown, round_for};
 ghost use Rattle.rounds.specs.Shared.{name_on, sharing_by};
 
 use records::Record;
-use sheet::line::Chosen;
 use turns::next::Turns;
 
 // What a round leaves: the record, and the place behind its line.
@@ -44,7 +43,7 @@ fn play(
     let n = starts.len() - 1;
     let mut marks = [0u8; 1024];
     if x == n {
-        let end = sheet::line::put_line(out, at, round, Chosen::Nobody, &marks, n, 0);
+        let end = sheet::line::put_line(out, at, round, None, &marks, n, 0);
         return Played { kept, at: end };
     }
     let anchored = kept.anchored;
@@ -54,7 +53,7 @@ fn play(
     search::search(starts, links, &anchored, &level, &layer, x, &mut marks);
     let stepped = step::step(starts, links, kept, x, round);
     let row = stepped.row;
-    let chosen = Chosen::Vertex(x as u16);
+    let chosen = Some(x as u16);
     let end = sheet::line::put_line(out, at, round, chosen, &marks, n, row.redone);
     let next = stepped.kept;
     Played {

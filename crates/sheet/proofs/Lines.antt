@@ -1,4 +1,5 @@
 -- Laws of the answer sheet: its lines have one length, and their digits say the numbers. Assumes nothing.
+use Rattle.std.proofs.Common.{Option, Some, None}
 use mathlib.Core.Path.{◌≡◌, refl, sym, ◌∙◌}
 use mathlib.Core.Bool.{Bool}
 use mathlib.Core.List.{List, [], ◌∷◌, ◌++◌, append-nil, append_assoc}
@@ -12,27 +13,25 @@ use Rattle.finite.proofs.Bytes.{value_from, decimal-length}
 use Rattle.sheet.specs.Written.{Written}
 use Rattle.sheet.specs.Line.{two_digits, four_digits, name_of, retain_part, marks_part, line_of, Round, sheet_from, sheet_of, refused_line}
 use Rattle.sheet.specs.Parted.{Parted}
-use Rattle.sheet.specs.declared.line.Chosen.{Chosen}
-use Rattle.sheet.specs.declared.line.Chosen.TheVariants.{Vertex, Nobody}
 use Rattle.sheet.specs.declared.line.Units.{Units}
 use Rattle.sheet.proofs.Written.{written_then}
 
 -- ---- a line
 
 -- a name has four bytes
-pub name_length : (chosen : Chosen) → length (name_of chosen) ≡ 4
-name_length (Vertex v) = refl
-name_length Nobody = refl
+pub name_length : (chosen : Option ℕ) → length (name_of chosen) ≡ 4
+name_length (Some v) = refl
+name_length None = refl
 
 -- the retain part of a line has 14 bytes, the marks part 9 and one a vertex
-pub retain_length : (chosen : Chosen) → length (retain_part chosen) ≡ 14
+pub retain_length : (chosen : Option ℕ) → length (retain_part chosen) ≡ 14
 retain_length chosen = simp (length-append, name_length)
 
 pub marks-length : (lifted : ℕ → Bool) (n : ℕ) → length (marks_part lifted n) ≡ 9 + n
 marks-length lifted n = simp (length-append, length-tabulate) (omega arith)
 
 -- a line over n vertices has 48 + n bytes, whatever it says
-pub line_length : (round : ℕ) (chosen : Chosen) (lifted : ℕ → Bool) (n redone : ℕ) → length (line_of round chosen lifted n redone) ≡ 48 + n
+pub line_length : (round : ℕ) (chosen : Option ℕ) (lifted : ℕ → Bool) (n redone : ℕ) → length (line_of round chosen lifted n redone) ≡ 48 + n
 unfolding line_of
 line_length round chosen lifted n redone = simp (length-append, name_length, length-tabulate) (omega arith)
 

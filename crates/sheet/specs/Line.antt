@@ -1,9 +1,7 @@
 -- Document 01, "Rounds and the answer sheet": the bytes of a round's line, of a sheet, and of a refusal's line.
-use Rattle.std.specs.Prelude.{Bool, cond, List, [], ◌∷◌, ◌++◌, ℕ, ◌+◌, ◌/◌, get_or, eqb}
+use Rattle.std.specs.Prelude.{Bool, cond, List, [], ◌∷◌, ◌++◌, ℕ, ◌+◌, ◌/◌, get_or, eqb, Option, Some, None}
 use Rattle.finite.specs.Count.{tabulate}
 use Rattle.finite.specs.Bytes.{bytes, digit, decimal}
-use Rattle.sheet.specs.declared.line.Chosen.{Chosen}
-use Rattle.sheet.specs.declared.line.Chosen.TheVariants.{Vertex, Nobody}
 
 -- the last two digits: all of them, of a number below 100
 abbrev pub two_digits : ℕ → List ℕ
@@ -29,14 +27,14 @@ abbrev pub lifted_by : List ℕ → ℕ → Bool
 lifted_by marks v = eqb (get_or marks v 0) 2
 
 -- whom a round retains: four digits, or four dashes for nobody
-abbrev pub name_of : Chosen → List ℕ
-name_of (Vertex v) = four_digits v
-name_of Nobody = bytes "----"
+abbrev pub name_of : Option ℕ → List ℕ
+name_of (Some v) = four_digits v
+name_of None = bytes "----"
 
 abbrev pub round_part : ℕ → List ℕ
 round_part round = bytes "(round " ++ two_digits round
 
-abbrev pub retain_part : Chosen → List ℕ
+abbrev pub retain_part : Option ℕ → List ℕ
 retain_part chosen = bytes " (retain " ++ name_of chosen ++ bytes ")"
 
 abbrev pub marks_part : (ℕ → Bool) → ℕ → List ℕ
@@ -46,12 +44,12 @@ abbrev pub redone_part : ℕ → List ℕ
 redone_part redone = bytes " (redone " ++ four_digits redone ++ bytes "))\n"
 
 -- the line of a round over n vertices
-unfoldable pub line_of : ℕ → Chosen → (ℕ → Bool) → ℕ → ℕ → List ℕ
+unfoldable pub line_of : ℕ → Option ℕ → (ℕ → Bool) → ℕ → ℕ → List ℕ
 line_of round chosen lifted n redone = round_part round ++ retain_part chosen ++ marks_part lifted n ++ redone_part redone
 
 -- a round as its line shows it
 pub record Round : Type 0 where
-  pub chosen : Chosen
+  pub chosen : Option ℕ
   pub lifted : ℕ → Bool
   pub redone : ℕ
 

@@ -7,19 +7,12 @@ ghost use Rattle.sheet.specs.Parted.{Parted};
 ghost use Rattle.sheet.specs.Line.{two_digits, four_digits, sign, lifted_by, signs, name_of};
 ghost use Rattle.sheet.specs.Line.{round_part, retain_part, marks_part, redone_part, line_of, refused_line};
 
-// Whom a round retains: a vertex, or nobody where none is left to retain.
-#[derive(Drop)]
-pub enum Chosen {
-    Vertex(u16),
-    Nobody,
-}
-
-// A round's line: whom it retains, the vertices that it lifted (mark 2), and how many rows it redid.
+// A round's line: whom it retains, nobody where none is left to retain, the vertices that it lifted (mark 2), and how many rows it redid.
 pub fn put_line(
     out: &mut [u8],
     at: usize,
     round: u16,
-    chosen: Chosen,
+    chosen: Option<u16>,
     marks: &[u8; 1024],
     n: usize,
     redone: u16,
@@ -54,7 +47,7 @@ fn put_round(out: &mut [u8], at: usize, round: u16) -> usize
 }
 
 // ` (retain 0000)`
-fn put_retain(out: &mut [u8], at: usize, chosen: Chosen) -> usize
+fn put_retain(out: &mut [u8], at: usize, chosen: Option<u16>) -> usize
     requires { at + 14 ≤ length out.old }
     ensures { Written out.old at (retain_part chosen) out.new result }
 {
@@ -85,13 +78,13 @@ fn put_redone(out: &mut [u8], at: usize, redone: u16) -> usize
 }
 
 // Four digits of the vertex, or four dashes.
-fn put_chosen(out: &mut [u8], at: usize, chosen: Chosen) -> usize
+fn put_chosen(out: &mut [u8], at: usize, chosen: Option<u16>) -> usize
     requires { at + 4 ≤ length out.old }
     ensures { Written out.old at (name_of chosen) out.new result }
 {
     match chosen {
-        Chosen::Vertex(v) => put_four(out, at, v),
-        Chosen::Nobody => put_text(out, at, b"----"),
+        Some(v) => put_four(out, at, v),
+        None => put_text(out, at, b"----"),
     }
 }
 
@@ -101,12 +94,10 @@ fn put_signs(out: &mut [u8], at: usize, marks: &[u8; 1024], n: usize) -> usize
     requires n_in_bounds { at + n ≤ length out.old }
     ensures { Written out.old at (signs (lifted_by marks.now) n) out.new result }
 {
-    let mut v: usize = 0;
-    while v < n {
+    for v in 0..n {
         out[at + v] = sign_of(marks[v]);
-        v += 1;
     }
-    at + v
+    at + n
 }
 
 // The sign of a vertex by its mark.
@@ -151,9 +142,8 @@ fn put_two(out: &mut [u8], at: usize, v: u16) -> usize
     requires { at + 2 ≤ length out.old }
     ensures { Written out.old at (two_digits v) out.new result }
 {
-    out[at] = b'0' + (v / 10 % 10) as u8;
-    out[at + 1] = b'0' + (v % 10) as u8;
-    at + 2
+    let last_at = put_digit(out, at, usize::from(v) / 10);
+    put_digit(out, last_at, usize::from(v))
 }
 
 // The writer of every field of four digits, by comparison and subtraction: for a handset that does not divide. A field has the number's
@@ -166,11 +156,13 @@ pub fn put_four(out: &mut [u8], at: usize, v: u16) -> usize
     let thousands = take_units(beyond.rest, 1000);
     let hundreds = take_units(thousands.rest, 100);
     let tens = take_units(hundreds.rest, 10);
-    out[at] = b'0' + thousands.count as u8;
-    out[at + 1] = b'0' + hundreds.count as u8;
-    out[at + 2] = b'0' + tens.count as u8;
-    out[at + 3] = b'0' + tens.rest as u8;
-    at + 4
+    let digits = [
+        b'0' + thousands.count as u8,
+        b'0' + hundreds.count as u8,
+        b'0' + tens.count as u8,
+        b'0' + tens.rest as u8,
+    ];
+    put_text(out, at, &digits)
 }
 
 // A number as so many units and a rest.
@@ -199,10 +191,7 @@ fn put_text(out: &mut [u8], at: usize, text: &[u8]) -> usize
     requires { at + length text.now ≤ length out.old }
     ensures { Written out.old at text.now out.new result }
 {
-    let mut i: usize = 0;
-    while i < text.len() {
-        out[at + i] = text[i];
-        i += 1;
-    }
-    at + i
+    let end = at + text.len();
+    out[at..end].copy_from_slice(text);
+    end
 }
