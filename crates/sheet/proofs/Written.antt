@@ -1,11 +1,13 @@
 -- Laws of writing into lent bytes. Assumes nothing.
-use mathlib.Core.Path.{◌≡◌, ap, ◌∙◌, subst}
-use mathlib.Core.List.{List, ◌++◌, append_assoc}
+use mathlib.Core.Path.{◌≡◌, refl, ap, ◌∙◌, subst}
+use mathlib.Core.List.{List, [], ◌∷◌, ◌++◌, append_assoc}
 use Prim.Native.Nat.{ℕ, ◌+◌, ◌-◌, ◌≤◌}
+use native.Mathlib.Numerals.{add-one}
 use native.Mathlib.Omega.{arith}
 use lib.ListN.{length, take, drop, length-append}
 use lib.Seq.{sets, sets-eq, length-sets, drop-drop}
 use borrow.Rule.Slice.PartMut.{put_mid}
+use Rattle.finite.specs.Count.{tabulate}
 use Rattle.finite.proofs.Stores.{sets-append}
 use Rattle.sheet.specs.Written.{Written}
 
@@ -38,3 +40,13 @@ module _ {o : List ℕ} {a : ℕ} {xs o₁ : List ℕ} {a₁ : ℕ} (p : Written
 -- a text written from the first place on stands at the front
 pub written-front : {o xs o₁ : List ℕ} {a₁ : ℕ} → Written o 0 xs o₁ a₁ → length xs ≤ length o → (a₁ ≡ length xs) × (o₁ ≡ xs ++ drop (length xs) o)
 written-front {xs = xs} {a₁ = a₁} p h = let z : a₁ ≡ length xs = omega (arith, p.ends) in (z, written_parts p (omega arith) ∙ rw z)
+
+module _ (f : ℕ → ℕ) where
+  -- a loop that writes f 0, f 1, .. one behind the other: nothing written, one more written
+  pub written_none : {o : List ℕ} {a : ℕ} → Written o a (tabulate f 0) o a
+  unfolding tabulate
+  written_none = record { stored = refl; ends = omega arith }
+
+  pub written_more : (i : ℕ) {o o₁ o₂ : List ℕ} {a a₁ a₂ : ℕ} → Written o a (tabulate f i) o₁ a₁ → Written o₁ a₁ (f i ∷ []) o₂ a₂ → Written o a (tabulate f (i + 1)) o₂ a₂
+  unfolding tabulate
+  written_more i p q = rw add-one (written_then p q)

@@ -1,4 +1,5 @@
 pub mod Written
+pub mod Writing
 pub mod Line
 pub mod Parted
 pub mod Cases

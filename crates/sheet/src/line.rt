@@ -1,13 +1,14 @@
 // Writing the lines of the answer sheet, and the line of a refusal, into lent bytes.
-// Each writer answers the place after what it wrote.
 ghost use Rattle.std.specs.Prelude.{◌≡◌, [], ◌∷◌, ◌++◌, ◌+◌, ◌≤◌, ◌<◌, length, eqb};
 ghost use Rattle.finite.specs.Bytes.{digit, decimal};
 ghost use Rattle.sheet.specs.Written.{Written};
+ghost use Rattle.sheet.specs.Writing.{HasRoom, Wrote};
 ghost use Rattle.sheet.specs.Parted.{Parted};
 ghost use Rattle.sheet.specs.Line.{two_digits, four_digits, sign, lifted_by, signs, name_of};
 ghost use Rattle.sheet.specs.Line.{round_part, retain_part, marks_part, redone_part, line_of, refused_line};
 
 // A round's line: whom it retains, nobody where none is left to retain, the vertices that it lifted (mark 2), and how many rows it redid.
+// Answers the place behind the line.
 pub fn put_line(
     out: &mut [u8],
     at: usize,
@@ -21,83 +22,192 @@ pub fn put_line(
     requires n_in_bounds { at + (48 + n) ≤ length out.old }
     ensures { Written out.old at (line_of round chosen (lifted_by marks.now) n redone) out.new result }
 {
-    let retain_at = put_round(out, at, round);
-    let marks_at = put_retain(out, retain_at, chosen);
-    let redone_at = put_marks(out, marks_at, marks, n);
-    put_redone(out, redone_at, redone)
+    let mut line = Writer { out, at };
+    line.round(round);
+    line.retain(chosen);
+    line.marks(marks, n);
+    line.redone(redone);
+    line.at
 }
 
-// `(refused N P)` and byte 10, at the front of `out`.
+// `(refused N P)` and byte 10, at the front of `out`; its length.
 pub fn put_refused(out: &mut [u8], number: usize, place: usize) -> usize
     requires { 52 ≤ length out.old }
     ensures { Written out.old 0 (refused_line number place) out.new result }
 {
-    let place_at = put_labeled(out, 0, b"(refused ", number);
-    let end = put_labeled(out, place_at, b" ", place);
-    put_text(out, end, b")\n")
+    let mut line = Writer { out, at: 0 };
+    line.labeled(b"(refused ", number);
+    line.labeled(b" ", place);
+    line.text(b")\n");
+    line.at
 }
 
-// `(round 01`
-fn put_round(out: &mut [u8], at: usize, round: u16) -> usize
-    requires { at + 9 ≤ length out.old }
-    ensures { Written out.old at (round_part round) out.new result }
-{
-    let round_at = put_text(out, at, b"(round ");
-    put_two(out, round_at, round)
-}
-
-// ` (retain 0000)`
-fn put_retain(out: &mut [u8], at: usize, chosen: Option<u16>) -> usize
-    requires { at + 14 ≤ length out.old }
-    ensures { Written out.old at (retain_part chosen) out.new result }
-{
-    let name_at = put_text(out, at, b" (retain ");
-    let end = put_chosen(out, name_at, chosen);
-    put_text(out, end, b")")
-}
-
-// ` (marks .++.)`
-fn put_marks(out: &mut [u8], at: usize, marks: &[u8; 1024], n: usize) -> usize
-    requires n_bound { n ≤ 1024 }
-    requires n_in_bounds { at + (9 + n) ≤ length out.old }
-    ensures { Written out.old at (marks_part (lifted_by marks.now) n) out.new result }
-{
-    let signs_at = put_text(out, at, b" (marks ");
-    let end = put_signs(out, signs_at, marks, n);
-    put_text(out, end, b")")
-}
-
-// ` (redone 0002))` and byte 10
-fn put_redone(out: &mut [u8], at: usize, redone: u16) -> usize
-    requires { at + 16 ≤ length out.old }
-    ensures { Written out.old at (redone_part redone) out.new result }
-{
-    let redone_at = put_text(out, at, b" (redone ");
-    let end = put_four(out, redone_at, redone);
-    put_text(out, end, b"))\n")
-}
-
-// Four digits of the vertex, or four dashes.
-fn put_chosen(out: &mut [u8], at: usize, chosen: Option<u16>) -> usize
+// A field of four digits; the place behind it.
+pub fn put_four(out: &mut [u8], at: usize, v: u16) -> usize
     requires { at + 4 ≤ length out.old }
-    ensures { Written out.old at (name_of chosen) out.new result }
+    ensures { Written out.old at (four_digits v) out.new result }
 {
-    match chosen {
-        Some(v) => put_four(out, at, v),
-        None => put_text(out, at, b"----"),
-    }
+    let mut field = Writer { out, at };
+    field.four(v);
+    field.at
 }
 
-// One sign a vertex.
-fn put_signs(out: &mut [u8], at: usize, marks: &[u8; 1024], n: usize) -> usize
-    requires n_bound { n ≤ 1024 }
-    requires n_in_bounds { at + n ≤ length out.old }
-    ensures { Written out.old at (signs (lifted_by marks.now) n) out.new result }
-{
-    for v in 0..n {
-        out[at + v] = sign_of(marks[v]);
+// A place in lent bytes. Each method writes there, and the place is then behind what it wrote.
+#[derive(Drop)]
+struct Writer<'a> {
+    out: &'a mut [u8],
+    at: usize,
+}
+
+impl<'a> Writer<'a> {
+    // `(round 01`
+    fn round(&mut self, round: u16)
+        requires { HasRoom self.old 9 }
+        ensures same_reference { self.new.out.ghost_name ≡ self.old.out.ghost_name }
+        ensures wrote { Wrote self.old (round_part round) self.new }
+    {
+        self.text(b"(round ");
+        self.two(round);
     }
-    at + n
+
+    // ` (retain 0000)`
+    fn retain(&mut self, chosen: Option<u16>)
+        requires { HasRoom self.old 14 }
+        ensures same_reference { self.new.out.ghost_name ≡ self.old.out.ghost_name }
+        ensures wrote { Wrote self.old (retain_part chosen) self.new }
+    {
+        self.text(b" (retain ");
+        self.name(chosen);
+        self.text(b")");
+    }
+
+    // ` (marks .++.)`
+    fn marks(&mut self, marks: &[u8; 1024], n: usize)
+        requires n_bound { n ≤ 1024 }
+        requires n_in_bounds { HasRoom self.old (9 + n) }
+        ensures same_reference { self.new.out.ghost_name ≡ self.old.out.ghost_name }
+        ensures wrote { Wrote self.old (marks_part (lifted_by marks.now) n) self.new }
+    {
+        self.text(b" (marks ");
+        self.signs(marks, n);
+        self.text(b")");
+    }
+
+    // ` (redone 0002))` and byte 10
+    fn redone(&mut self, redone: u16)
+        requires { HasRoom self.old 16 }
+        ensures same_reference { self.new.out.ghost_name ≡ self.old.out.ghost_name }
+        ensures wrote { Wrote self.old (redone_part redone) self.new }
+    {
+        self.text(b" (redone ");
+        self.four(redone);
+        self.text(b"))\n");
+    }
+
+    // Four digits of the vertex, or four dashes.
+    fn name(&mut self, chosen: Option<u16>)
+        requires { HasRoom self.old 4 }
+        ensures same_reference { self.new.out.ghost_name ≡ self.old.out.ghost_name }
+        ensures wrote { Wrote self.old (name_of chosen) self.new }
+    {
+        match chosen {
+            Some(v) => self.four(v),
+            None => self.text(b"----"),
+        }
+    }
+
+    // One sign a vertex.
+    fn signs(&mut self, marks: &[u8; 1024], n: usize)
+        requires n_bound { n ≤ 1024 }
+        requires n_in_bounds { HasRoom self.old n }
+        ensures same_reference { self.new.out.ghost_name ≡ self.old.out.ghost_name }
+        ensures wrote { Wrote self.old (signs (lifted_by marks.now) n) self.new }
+    {
+        for v in 0..n {
+            self.byte(sign_of(marks[v]));
+        }
+    }
+
+    // A label, then a number without leading zeros.
+    fn labeled(&mut self, label: &[u8], v: usize)
+        requires { HasRoom self.old (length label.now + length (decimal v)) }
+        ensures same_reference { self.new.out.ghost_name ≡ self.old.out.ghost_name }
+        ensures wrote { Wrote self.old (label.now ++ decimal v) self.new }
+    {
+        self.text(label);
+        self.decimal(v);
+    }
+
+    // A number without leading zeros: the digits before the last, then the last.
+    fn decimal(&mut self, v: usize)
+        requires { HasRoom self.old (length (decimal v)) }
+        ensures same_reference { self.new.out.ghost_name ≡ self.old.out.ghost_name }
+        ensures wrote { Wrote self.old (decimal v) self.new }
+    {
+        if v >= 10 {
+            self.decimal(v / 10);
+        }
+        self.digit(v);
+    }
+
+    // Two digits.
+    fn two(&mut self, v: u16)
+        requires { HasRoom self.old 2 }
+        ensures same_reference { self.new.out.ghost_name ≡ self.old.out.ghost_name }
+        ensures wrote { Wrote self.old (two_digits v) self.new }
+    {
+        self.digit(usize::from(v) / 10);
+        self.digit(usize::from(v));
+    }
+
+    // The last digit of a number.
+    fn digit(&mut self, v: usize)
+        requires { HasRoom self.old 1 }
+        ensures same_reference { self.new.out.ghost_name ≡ self.old.out.ghost_name }
+        ensures wrote { Wrote self.old (digit v ∷ []) self.new }
+    {
+        self.byte(b'0' + (v % 10) as u8);
+    }
+
+    // The writer of every field of four digits, by comparison and subtraction: for a handset that does not divide. A field has the number's
+    // last four digits, so ten thousands are taken off first.
+    fn four(&mut self, v: u16)
+        requires { HasRoom self.old 4 }
+        ensures same_reference { self.new.out.ghost_name ≡ self.old.out.ghost_name }
+        ensures wrote { Wrote self.old (four_digits v) self.new }
+    {
+        let beyond = take_units(v, 10000);
+        let thousands = take_units(beyond.rest, 1000);
+        let hundreds = take_units(thousands.rest, 100);
+        let tens = take_units(hundreds.rest, 10);
+        let digits = [
+            b'0' + thousands.count as u8,
+            b'0' + hundreds.count as u8,
+            b'0' + tens.count as u8,
+            b'0' + tens.rest as u8,
+        ];
+        self.text(&digits);
+    }
+
+    // A text.
+    fn text(&mut self, text: &[u8])
+        requires { HasRoom self.old (length text.now) }
+        ensures same_reference { self.new.out.ghost_name ≡ self.old.out.ghost_name }
+        ensures wrote { Wrote self.old text.now self.new }
+    {
+        let end = self.at + text.len();
+        self.out[self.at..end].copy_from_slice(text);
+        self.at = end;
+    }
+
+    fn byte(&mut self, b: u8)
+        requires { HasRoom self.old 1 }
+        ensures same_reference { self.new.out.ghost_name ≡ self.old.out.ghost_name }
+        ensures wrote { Wrote self.old (b ∷ []) self.new }
+    {
+        self.out[self.at] = b;
+        self.at += 1;
+    }
 }
 
 // The sign of a vertex by its mark.
@@ -105,64 +215,6 @@ fn sign_of(mark: u8) -> u8
     ensures { result ≡ sign (eqb mark 2) }
 {
     if mark == 2 { b'+' } else { b'.' }
-}
-
-// A label, then a number without leading zeros.
-fn put_labeled(out: &mut [u8], at: usize, label: &[u8], v: usize) -> usize
-    requires { at + (length label.now + length (decimal v)) ≤ length out.old }
-    ensures { Written out.old at (label.now ++ decimal v) out.new result }
-{
-    let number_at = put_text(out, at, label);
-    put_decimal(out, number_at, v)
-}
-
-// A number without leading zeros: the digits before the last, then the last.
-fn put_decimal(out: &mut [u8], at: usize, v: usize) -> usize
-    requires { at + length (decimal v) ≤ length out.old }
-    ensures { Written out.old at (decimal v) out.new result }
-{
-    if v < 10 {
-        return put_digit(out, at, v);
-    }
-    let last_at = put_decimal(out, at, v / 10);
-    put_digit(out, last_at, v)
-}
-
-// The last digit of a number.
-fn put_digit(out: &mut [u8], at: usize, v: usize) -> usize
-    requires { at + 1 ≤ length out.old }
-    ensures { Written out.old at (digit v ∷ []) out.new result }
-{
-    out[at] = b'0' + (v % 10) as u8;
-    at + 1
-}
-
-// Two digits.
-fn put_two(out: &mut [u8], at: usize, v: u16) -> usize
-    requires { at + 2 ≤ length out.old }
-    ensures { Written out.old at (two_digits v) out.new result }
-{
-    let last_at = put_digit(out, at, usize::from(v) / 10);
-    put_digit(out, last_at, usize::from(v))
-}
-
-// The writer of every field of four digits, by comparison and subtraction: for a handset that does not divide. A field has the number's
-// last four digits, so ten thousands are taken off first.
-pub fn put_four(out: &mut [u8], at: usize, v: u16) -> usize
-    requires { at + 4 ≤ length out.old }
-    ensures { Written out.old at (four_digits v) out.new result }
-{
-    let beyond = take_units(v, 10000);
-    let thousands = take_units(beyond.rest, 1000);
-    let hundreds = take_units(thousands.rest, 100);
-    let tens = take_units(hundreds.rest, 10);
-    let digits = [
-        b'0' + thousands.count as u8,
-        b'0' + hundreds.count as u8,
-        b'0' + tens.count as u8,
-        b'0' + tens.rest as u8,
-    ];
-    put_text(out, at, &digits)
 }
 
 // A number as so many units and a rest.
@@ -179,19 +231,10 @@ fn take_units(v: u16, unit: u16) -> Units
 {
     let mut count: u16 = 0;
     let mut rest = v;
+    // no range has its number of turns: that is the quotient, found without dividing
     while unit <= rest {
         rest -= unit;
         count += 1;
     }
     Units { count, rest }
-}
-
-// Copies a text.
-fn put_text(out: &mut [u8], at: usize, text: &[u8]) -> usize
-    requires { at + length text.now ≤ length out.old }
-    ensures { Written out.old at text.now out.new result }
-{
-    let end = at + text.len();
-    out[at..end].copy_from_slice(text);
-    end
 }
