@@ -1,5 +1,5 @@
 -- A round on a right record, and round after round: what the code holds is what the lines that houses share leave. Assumes nothing.
-use Rattle.std.proofs.Common.{Some, None}
+use Rattle.std.proofs.Common.{Option, Some, None, true, false, IfSome, unwrap_or, option_and_then}
 use mathlib.Core.Path.{◌≡◌, refl, sym, ap, ap₂, ◌∙◌, subst}
 use mathlib.Core.Bool.{Bool, cond}
 use mathlib.Core.List.{List, [], ◌∷◌, ◌++◌}
@@ -19,7 +19,7 @@ use Rattle.anchored.specs.Yield.{choice_of}
 use Rattle.anchored.specs.Session.{Plain, turn, row_of, after}
 use Rattle.anchored.specs.Houses.{Houses, Sharing, free_in, served, after_turn, served_on, after_line, named, after_lines, house_choice}
 use Rattle.anchored.proofs.Choice.{choice_of-le, choice_of_passes}
-use Rattle.anchored.proofs.Houses.{named_some, named_none, served_open, open_left, next-lt, lines_more}
+use Rattle.anchored.proofs.Houses.{named_some, named_none, served-le, served_open, open_left, next-lt, lines_more}
 use Rattle.pool.specs.Input.{graph_of, anchored_by}
 use Rattle.pool.specs.Arrays.{Holds}
 use Rattle.records.specs.Record.{Right, plain_of, Stands, Keeps, session_of}
@@ -32,9 +32,11 @@ use Rattle.sheet.specs.Written.{Written}
 use Rattle.sheet.specs.Line.{Round, lifted_by, line_of, sheet_from, sheet_of}
 use Rattle.sheet.proofs.Written.{written_as, written-length}
 use Rattle.sheet.proofs.Lines.{sheet_length, sheet_turn}
+use Rattle.turns.specs.Found.{found_below}
 use Rattle.turns.specs.Choice.{choice_by, yield_in}
 use Rattle.turns.specs.Turns.{houses_by, quota_by, turns_by}
 use Rattle.turns.specs.declared.next.Turns.{Turns as TurnsHeld}
+use Rattle.turns.proofs.Found.{found_none, found_value, found_meets}
 use Rattle.turns.proofs.Choices.{choice-by}
 use Rattle.rounds.specs.Rounds.{round_for, rounds_of, shown}
 use Rattle.rounds.specs.Shared.{name_on, shared_after, shared_rounds, sharing_by}
@@ -78,18 +80,31 @@ module _ {s l : List ℕ} {kept : Record} (right : Right s l kept) (hs : List �
   abbrev S : Sharing
   S = sharing_by kept turns
 
-  module _ {c : ℕ} (found : c ≡ served H (vertices s) A (turns_by turns)) where
-    -- it has something left of its quota
-    pub turn-left : c < houses → 0 < get_or turns.left c 0
-    turn-left h = rw found (open_left H (vertices s) A (turns_by turns) (served H (vertices s) A (turns_by turns))
-        (served_open H (vertices s) A (turns_by turns) (omega (arith, found))))
+  module _ {c : Option ℕ} (found : c ≡ found_below houses (served H (vertices s) A (turns_by turns))) where
+    -- the house found has something left of its quota
+    pub turn-left : IfSome c (λ e. (e < houses) × (0 < get_or turns.left e 0))
+    turn-left = rw found (found_meets houses (served H (vertices s) A (turns_by turns)) (λ e. (e < houses) × (0 < get_or turns.left e 0))
+        (λ h. (h, open_left H (vertices s) A (turns_by turns) (served H (vertices s) A (turns_by turns)) (served_open H (vertices s) A (turns_by turns) h))))
+
+    -- as a number it is the house served
+    pub turn-served : turns.next < houses → unwrap_or c houses ≡ served H (vertices s) A (turns_by turns)
+    turn-served h = rw found (found_value houses (served H (vertices s) A (turns_by turns)) (served-le H (vertices s) A (turns_by turns) h))
 
     -- the vertex found is the one that the line names
-    pub name_found : {x : ℕ} → x ≡ cond (ltb c houses) (choice_by (vertices s) (yield_in hs c (yield_at kept))) (vertices s) → x ≡ name_on (graph_of s l) H S
+    pub name_found : {x : Option ℕ} → x ≡ option_and_then (λ e. found_below (vertices s) (choice_by (vertices s) (yield_in hs e (yield_at kept)))) c
+        → x ≡ found_below (vertices s) (name_on (graph_of s l) H S)
     unfolding named house_choice
-    name_found e = e
-        ∙ ap (λ z. cond (ltb c houses) z (vertices s)) (choice-by right hs c)
-        ∙ ap (λ z. cond (ltb z houses) (choice_of (graph_of s l) A (free_in H A z)) (vertices s)) found
+    name_found e = e ∙ ap (option_and_then choice) found ∙ by_house (ltb house houses)
+      where
+        house : ℕ
+        house = served H (vertices s) A (turns_by turns)
+
+        choice : ℕ → Option ℕ
+        choice e = found_below (vertices s) (choice_by (vertices s) (yield_in hs e (yield_at kept)))
+
+        by_house : (b : Bool) → option_and_then choice (cond b (Some house) None) ≡ found_below (vertices s) (cond b (choice_of (graph_of s l) A (free_in H A house)) (vertices s))
+        by_house true = ap (found_below (vertices s)) (choice-by right hs house)
+        by_house false = found_none (vertices s) (omega arith)
 
   -- it names a vertex that is not anchored, or n
   name_cases : (C : ℕ → Type 0) → C (vertices s) → ((c : ℕ) → C (choice_of (graph_of s l) A (free_in H A c))) → C (name_on (graph_of s l) H S)
@@ -109,6 +124,14 @@ module _ {s l : List ℕ} {kept : Record} (right : Right s l kept) (hs : List �
     where
       eqb-house : ℕ → ℕ → Bool
       eqb-house c x = eqb (get_or hs x 0) c
+
+  -- so the vertex found is that, and may be anchored
+  module _ {x : Option ℕ} (named_x : x ≡ found_below (vertices s) (name_on (graph_of s l) H S)) where
+    pub name_value : unwrap_or x (vertices s) ≡ name_on (graph_of s l) H S
+    name_value = rw named_x (found_value (vertices s) (name_on (graph_of s l) H S) name_le)
+
+    pub name_open : IfSome x (λ v. (v < vertices s) × (get_or kept.anchored v 0 ≡ 0))
+    name_open = rw named_x (found_meets (vertices s) (name_on (graph_of s l) H S) (λ v. (v < vertices s) × (get_or kept.anchored v 0 ≡ 0)) (λ h. (h, name_free h)))
 
 -- ---- round after round
 

@@ -33,23 +33,18 @@ pub fn write_shared(
     let mut kept = records::begin::begin(starts, links, given, false);
     let mut turns = turns::next::begin_turns(quotas);
     let mut at: usize = 0;
-    let mut i: u16 = 0;
-    while i < lines {
-        let served = super::play::play_turn(
+    for i in 0..lines {
+        at = super::play::play_turn(
             starts,
             links,
-            kept,
+            &mut kept,
             house,
             houses,
-            turns,
+            &mut turns,
             i + 1,
             out,
             at,
         );
-        kept = served.kept;
-        turns = served.turns;
-        at = served.at;
-        i += 1;
     }
     at
 }

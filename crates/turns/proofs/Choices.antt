@@ -1,4 +1,5 @@
 -- The choice of a house: the loop that finds it, and that the net yields of a right record give the defined one. Assumes nothing.
+use Rattle.std.proofs.Common.{Some, None, true}
 use mathlib.Core.Path.{◌≡◌, refl, sym, ap, ◌∙◌, ap₂, subst}
 use mathlib.Core.Logic.{⊎_elim}
 use mathlib.Core.Bool.{Bool, false, not, cond}
@@ -42,6 +43,16 @@ use Rattle.turns.specs.Turns.{houses_by}
 ≤ℤ-<ℤ-trans : {a b c : ℤ} → a ≤ℤ b → b <ℤ c → a <ℤ c
 ≤ℤ-<ℤ-trans {a} {b} {c} h k = split (lt_z a c) lt_z_yes (λ t. clash_ℤ (<ℤ-≤ℤ_trans k (lt_z_no t)) h)
 
+-- ---- a vertex as a house sees it: with its yield, or, of another house, not at all
+
+pub seen_some : (mine : Bool) {y : ℤ} (z : ℤ) → Some y ≡ cond mine (Some z) None → y ≡ cond mine z least
+seen_some true z e = cc
+seen_some false z e = cc
+
+pub seen_none : (mine : Bool) (z : ℤ) → None ≡ cond mine (Some z) None → cond mine z least ≡ least
+seen_none true z e = cc
+seen_none false z e = refl
+
 -- ---- the loop
 
 module _ (n : ℕ) (yield : ℕ → ℤ) where
@@ -78,6 +89,12 @@ module _ (n : ℕ) (yield : ℕ → ℤ) where
   }
 
   module _ {chosen v : ℕ} {greatest : ℤ} (leads : Leading chosen greatest v) where
+    pub leading_above : least ≤ℤ greatest
+    leading_above = ⊎_elim
+        (λ e. subst (λ z. least ≤ℤ z) (sym (leads.nobody e)) (≤ℤ_refl least))
+        (λ h. <ℤ-≤ℤ (leads.above h))
+        (eq-or-lt_of_le leads.within)
+
     -- v has no greater yield
     pub leading_keep : yield v ≤ℤ greatest → Leading chosen greatest (v + 1)
     leading_keep h = record {
