@@ -53,12 +53,10 @@ fn has_free(n: usize, anchored: &[u8; 1024], house: &[u16], c: usize) -> bool
     requires n_in_bounds { n ≤ length house.now }
     ensures { result ≡ any (free_in (houses_by house.now 0) (anchored_by anchored.now) c) (below n) }
 {
-    for v in 0..n {
-        if is_free(usize::from(house[v]), c, anchored[v]) {
-            return true;
-        }
-    }
-    false
+    house[..n]
+        .iter()
+        .zip(anchored)
+        .any(|(own, a)| is_free(usize::from(*own), c, *a))
 }
 
 // Whether house c, of whose quota so much is left, is passed.
