@@ -2,48 +2,33 @@
 // texts that it refuses; then on bytes past the greatest size.
 #![tactic(auto)]
 
-use answer::Answered;
-use cases::print::text;
-use cases::read::{field, input};
+use answer::{Answered, text_to_sheet};
+use cases::read::Case;
 use std::io;
+use table::Refusal;
+
+fn answered(answer: Answered) -> Result<usize, Refusal> {
+    match answer {
+        Answered::Sheet(size) => Ok(size),
+        Answered::Refused(refusal) => Err(refusal),
+    }
+}
 
 // Prints `NAME: sheet of SIZE bytes` or `NAME: refused NUMBER PLACE`.
-fn show(rt: &impl Print, name: &[u8], answer: Answered) -> io::Result<()> {
-    match answer {
-        Answered::Sheet(size) => {
-            text(rt, name)?;
-            text(rt, b": sheet of")?;
-            cases::print::number(rt, size)?;
-            text(rt, b" bytes\n")
-        }
-        Answered::Refused(refusal) => cases::print::refusal(rt, name, b":", refusal),
-    }
+fn run(rt: &(impl Print + AllocGlobal), name: &str, room: usize, text: &[u8]) -> io::Result<()> {
+    let mut sheet = vec![in rt.alloc(); 0u8; room]?;
+    let answer = answered(text_to_sheet(text, &mut sheet));
+    print!(rt; "{name}:")?;
+    cases::print::answer(rt, answer, |size| println!(rt; " sheet of {size} bytes"))
 }
 
-fn run(rt: &impl Print, case: &[u8]) -> io::Result<()> {
-    let mut sheet = [0u8; 64320];
-    let size = cases::read::value(field(case, b':', 1));
-    let room = (size as usize).min(sheet.len());
-    let answer = answer::text_to_sheet(field(case, b':', 2), &mut sheet[..room]);
-    show(rt, field(case, b':', 0), answer)
-}
-
-fn run_cases(rt: &impl Print, texts: &[u8]) -> io::Result<()> {
-    for k in 0..15 {
-        run(rt, field(texts, b';', k))?;
-    }
-    Ok(())
-}
-
-fn run_long(rt: &impl Print) -> io::Result<()> {
-    let long = [b'x'; 65537];
-    let mut sheet = [0u8; 48];
-    let answer = answer::text_to_sheet(&long, &mut sheet);
-    show(rt, b"65,537 bytes", answer)
+fn run_case(rt: &(impl Print + AllocGlobal), case: &mut Case<'_>) -> io::Result<()> {
+    let name = case.text();
+    let room = case.number()?;
+    run(rt, name, room, case.text().as_bytes())
 }
 
 fn main(rt: HostRuntime) -> io::Result<()> {
-    let texts = input(&rt, 2048)?;
-    run_cases(&rt, texts.as_slice())?;
-    run_long(&rt)
+    cases::run(&rt, ';', |case| run_case(&rt, case))?;
+    run(&rt, "65,537 bytes", 48, &[b'x'; 65537])
 }

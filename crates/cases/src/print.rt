@@ -1,77 +1,50 @@
-// Lines on standard output, each behind the name of its case and a title. What cannot be written is answered.
-use std::io;
+// Answers, rows and sizes as they are printed.
+use std::fmt::{Display, Formatter};
+use std::{fmt, io};
 use table::Refusal;
 use table::size::Size;
 
-pub fn text(rt: &impl Print, bytes: &[u8]) -> io::Result<()> {
-    rt.write_all(bytes)
-}
+// `edges NUMBER max degree NUMBER`.
+#[derive(Drop)]
+pub struct Shown(pub Size);
 
-// ` NUMBER`.
-pub fn number(rt: &impl Print, value: usize) -> io::Result<()> {
-    print!(rt; " {value}")
-}
-
-// `NAME TITLE NUMBER`.
-pub fn count(rt: &impl Print, name: &[u8], title: &[u8], value: usize) -> io::Result<()> {
-    text(rt, name)?;
-    text(rt, title)?;
-    number(rt, value)?;
-    text(rt, b"\n")
-}
-
-// `NAME TITLE refused NUMBER PLACE`.
-pub fn refusal(rt: &impl Print, name: &[u8], title: &[u8], refused: Refusal) -> io::Result<()> {
-    text(rt, name)?;
-    text(rt, title)?;
-    text(rt, b" refused")?;
-    number(rt, refused.number as usize)?;
-    number(rt, refused.place)?;
-    text(rt, b"\n")
-}
-
-// ` edges NUMBER max degree NUMBER`, which ends a line.
-pub fn end_size(rt: &impl Print, size: Size) -> io::Result<()> {
-    text(rt, b" edges")?;
-    number(rt, size.edges)?;
-    text(rt, b" max degree")?;
-    number(rt, size.max_degree)?;
-    text(rt, b"\n")
-}
-
-// `NAME TITLE sound`, and the size.
-pub fn sound(rt: &impl Print, name: &[u8], title: &[u8], size: Size) -> io::Result<()> {
-    text(rt, name)?;
-    text(rt, title)?;
-    text(rt, b" sound")?;
-    end_size(rt, size)
-}
-
-// `NAME TITLE NUMBER NUMBER`; of a longer row the first eight numbers.
-pub fn row(rt: &impl Print, name: &[u8], title: &[u8], numbers: &[u16]) -> io::Result<()> {
-    text(rt, name)?;
-    text(rt, title)?;
-    let mut i: usize = 0;
-    while i < numbers.len() {
-        if i == 8 {
-            return text(rt, b" ..\n");
-        }
-        number(rt, numbers[i] as usize)?;
-        i += 1;
+impl Display for Shown {
+    fn fmt<W: fmt::Write>(&self, f: &mut Formatter<W>) -> fmt::Result {
+        write!(f, "edges {} max degree {}", self.0.edges, self.0.max_degree)
     }
-    text(rt, b"\n")
 }
 
-// Three rows, their titles parted by colons.
-pub fn rows(
-    rt: &impl Print,
-    name: &[u8],
-    titles: &[u8],
-    first: &[u16],
-    second: &[u16],
-    third: &[u16],
-) -> io::Result<()> {
-    row(rt, name, crate::read::field(titles, b':', 0), first)?;
-    row(rt, name, crate::read::field(titles, b':', 1), second)?;
-    row(rt, name, crate::read::field(titles, b':', 2), third)
+// Each number behind a space; of a longer row the first eight.
+#[derive(Drop)]
+pub struct Row<'a, T>(pub &'a [T]);
+
+impl<'a, T: Display> Display for Row<'a, T> {
+    fn fmt<W: fmt::Write>(&self, f: &mut Formatter<W>) -> fmt::Result {
+        for number in self.0.iter().take(8) {
+            write!(f, " {number}")?;
+        }
+        if self.0.len() > 8 {
+            write!(f, " ..")?;
+        }
+        Ok(())
+    }
+}
+
+// Ends a line by what `show` prints of the answer, or by ` refused NUMBER PLACE`.
+pub fn answer<R: Print, T: Drop, F: FnOnce(T) -> io::Result<()> + Drop>(
+    rt: &R,
+    answer: Result<T, Refusal>,
+    show: F,
+) -> io::Result<()>
+    requires { F.IsAlwaysCallable show }
+{
+    match answer {
+        Ok(value) => show(value),
+        Err(refusal) => println!(rt; " refused {} {}", refusal.number, refusal.place),
+    }
+}
+
+// Ends a line by ` sound` and the size, or by ` refused NUMBER PLACE`.
+pub fn sound(rt: &impl Print, checked: Result<Size, Refusal>) -> io::Result<()> {
+    answer(rt, checked, |size| println!(rt; " sound {}", Shown(size)))
 }

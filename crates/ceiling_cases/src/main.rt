@@ -3,80 +3,40 @@
 // kite, which has two levels, from three of a fork, where two walks end at one vertex, and a refusal of each kind after the table's.
 #![tactic(auto)]
 
-use cases::print::{number, text};
-use cases::read::{bytes, field, input, numbers};
-use ceiling::Bounded;
+use cases::print::{Shown, answer};
+use cases::read::Case;
+use ceiling::{Bounded, ceiling};
 use std::io;
+use table::Refusal;
+use table::size::Size;
 
-fn print_bounded(rt: &impl Print, answer: Bounded) -> io::Result<()> {
+fn bounded(answer: Bounded) -> Result<(u16, Size), Refusal> {
     match answer {
-        Bounded::Ceiling(bound, size) => {
-            number(rt, bound as usize)?;
-            cases::print::end_size(rt, size)
-        }
-        Bounded::Refused(refusal) => cases::print::refusal(rt, b"", b"", refusal),
+        Bounded::Ceiling(bound, size) => Ok((bound, size)),
+        Bounded::Refused(refusal) => Err(refusal),
     }
 }
 
-fn ceiling(
-    rt: &impl Print,
-    name: &[u8],
-    starts: &[u16],
-    links: &[u16],
-    anchored: &[u8],
-    levels: &[u16],
-    layers: &[u16],
-    x: usize,
-) -> io::Result<()> {
-    text(rt, name)?;
-    text(rt, b" ceiling")?;
-    print_bounded(
+fn run_case(rt: &impl Print, case: &mut Case<'_>) -> io::Result<()> {
+    let name = case.text();
+    let pool = case.pool()?;
+    let sheet = case.sheet()?;
+    let bound = ceiling(
+        &pool.starts,
+        &pool.links,
+        &pool.anchored,
+        &sheet.levels,
+        &sheet.layers,
+        case.number()?,
+    );
+    print!(rt; "{name} ceiling")?;
+    answer(
         rt,
-        ceiling::ceiling(starts, links, anchored, levels, layers, x),
+        bounded(bound),
+        |(bound, size)| println!(rt; " {bound} {}", Shown(size)),
     )
-}
-
-fn run(
-    rt: &impl Print,
-    line: &[u8],
-    starts: &[u16],
-    links: &[u16],
-    anchored: &[u8],
-) -> io::Result<()> {
-    let mut levels = [0u16; 5];
-    let mut layers = [0u16; 5];
-    let n = numbers(field(line, b':', 4), &mut levels);
-    let m = numbers(field(line, b':', 5), &mut layers);
-    ceiling(
-        rt,
-        field(line, b':', 0),
-        starts,
-        links,
-        anchored,
-        &levels[..n],
-        &layers[..m],
-        cases::read::value(field(line, b':', 6)) as usize,
-    )
-}
-
-fn run_line(rt: &impl Print, line: &[u8]) -> io::Result<()> {
-    let mut starts = [0u16; 6];
-    let mut links = [0u16; 12];
-    let mut anchored = [0u8; 5];
-    let s = numbers(field(line, b':', 1), &mut starts);
-    let l = numbers(field(line, b':', 2), &mut links);
-    let a = bytes(field(line, b':', 3), &mut anchored);
-    run(rt, line, &starts[..s], &links[..l], &anchored[..a])
-}
-
-fn run_lines(rt: &impl Print, lines: &[u8]) -> io::Result<()> {
-    for k in 0..46 {
-        run_line(rt, field(lines, b'\n', k))?;
-    }
-    Ok(())
 }
 
 fn main(rt: HostRuntime) -> io::Result<()> {
-    let lines = input(&rt, 4096)?;
-    run_lines(&rt, lines.as_slice())
+    cases::run(&rt, '\n', |case| run_case(&rt, case))
 }

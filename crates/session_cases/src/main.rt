@@ -1,182 +1,190 @@
 // Runs sessions on the chain of document 01, without events, with edges added and dropped on it, without vertices, and with as many events
-// as a session takes and one more. The lent slices are parts of arrays of 7s, the places past the last link too; of each but the anchored bytes the
+// as a session takes and one more. The lent slices are parts of rows of 7s, the places past the last link too; of each but the anchored bytes the
 // first eight places are printed.
 #![tactic(auto)]
 
 ghost use Rattle.std.specs.Prelude.{◌≤◌, length};
 
-use cases::print::{row, rows, text};
+use cases::print::{Row, sound};
 use session::run::Ran;
 use std::io;
+use table::Refusal;
+use table::size::Size;
 
-fn print_ran(rt: &impl Print, name: &[u8], answer: Ran) -> io::Result<()> {
+fn ran(answer: Ran) -> Result<Size, Refusal> {
     match answer {
-        Ran::Served(size) => cases::print::sound(rt, name, b"", size),
-        Ran::Refused(refusal) => cases::print::refusal(rt, name, b"", refusal),
+        Ran::Served(size) => Ok(size),
+        Ran::Refused(refusal) => Err(refusal),
     }
 }
 
-// ` NUMBER`, with its sign where it is below 0.
-fn print_yield(rt: &impl Print, value: i16) -> io::Result<()> {
-    print!(rt; " {value}")
+// A table, the anchored bytes that the session is given, and the events.
+#[derive(Drop)]
+struct Case<'a> {
+    name: &'a str,
+    starts: &'a [u16],
+    links: &'a [u16],
+    given: &'a [u8],
+    kinds: &'a [u16],
+    firsts: &'a [u16],
+    seconds: &'a [u16],
 }
 
-fn print_yields(rt: &impl Print, name: &[u8], yields: &[i16]) -> io::Result<()> {
-    text(rt, name)?;
-    text(rt, b" yields")?;
-    let mut i: usize = 0;
-    while i < yields.len() {
-        print_yield(rt, yields[i])?;
-        i += 1;
+// What a session keeps of each vertex, and answers to each event.
+#[derive(Drop)]
+struct Record {
+    anchored: [u8; 4],
+    levels: [u16; 4],
+    layers: [u16; 4],
+    components: [u16; 4],
+    yields: [i16; 4],
+    reached: [u16; 4],
+    stamps: [u16; 4],
+    status: [u16; 4097],
+    lifted: [u16; 4097],
+    redone: [u16; 4097],
+}
+
+impl Record {
+    fn of_sevens() -> Record {
+        Record {
+            anchored: [7; 4],
+            levels: [7; 4],
+            layers: [7; 4],
+            components: [7; 4],
+            yields: [7; 4],
+            reached: [7; 4],
+            stamps: [7; 4],
+            status: [7; 4097],
+            lifted: [7; 4097],
+            redone: [7; 4097],
+        }
     }
-    text(rt, b"\n")
+
+    fn print(&self, rt: &impl Print, name: &str) -> io::Result<()> {
+        println!(rt; "{name} status{}", Row(&self.status))?;
+        println!(rt; "{name} lifted{}", Row(&self.lifted))?;
+        println!(rt; "{name} redone{}", Row(&self.redone))?;
+        println!(rt; "{name} stamps{}", Row(&self.stamps))?;
+        println!(rt; "{name} levels{}", Row(&self.levels))?;
+        println!(rt; "{name} layers{}", Row(&self.layers))?;
+        println!(rt; "{name} components{}", Row(&self.components))?;
+        println!(rt; "{name} yields{}", Row(&self.yields))?;
+        println!(rt; "{name} reached{}", Row(&self.reached))
+    }
 }
 
-// Runs the events on a table that is lent, and prints the table and the record as they are afterwards.
-fn run(
-    rt: &impl Print,
-    name: &[u8],
-    starts: &mut [u16],
-    links: &mut [u16],
-    given: &[u8],
-    kinds: &[u16],
-    firsts: &[u16],
-    seconds: &[u16],
-) -> io::Result<()>
-    requires given_len_bound { length given.now ≤ 4 }
-    requires kinds_len_bound { length kinds.now ≤ 4097 }
+// Runs the events on the table; the record has a place for each vertex and event.
+fn serve(case: &Case<'_>, starts: &mut [u16], links: &mut [u16]) -> (Result<Size, Refusal>, Record)
+    requires given_bound { length case.now.given.now ≤ 4 }
+    requires kinds_bound { length case.now.kinds.now ≤ 4097 }
 {
-    let n = given.len();
-    let m = kinds.len();
-    let mut anchored = [7u8; 4];
-    let mut levels = [7u16; 4];
-    let mut layers = [7u16; 4];
-    let mut components = [7u16; 4];
-    let mut yields = [7i16; 4];
-    let mut reached = [7u16; 4];
-    let mut stamps = [7u16; 4];
-    let mut status = [7u16; 4097];
-    let mut lifted = [7u16; 4097];
-    let mut redone = [7u16; 4097];
+    let n = case.given.len();
+    let m = case.kinds.len();
+    let mut record = Record::of_sevens();
     let answer = session::run::run(
         starts,
         links,
-        given,
-        kinds,
-        firsts,
-        seconds,
-        &mut anchored[..n],
-        &mut levels[..n],
-        &mut layers[..n],
-        &mut components[..n],
-        &mut yields[..n],
-        &mut reached[..n],
-        &mut stamps[..n],
-        &mut status[..m],
-        &mut lifted[..m],
-        &mut redone[..m],
+        case.given,
+        case.kinds,
+        case.firsts,
+        case.seconds,
+        &mut record.anchored[..n],
+        &mut record.levels[..n],
+        &mut record.layers[..n],
+        &mut record.components[..n],
+        &mut record.yields[..n],
+        &mut record.reached[..n],
+        &mut record.stamps[..n],
+        &mut record.status[..m],
+        &mut record.lifted[..m],
+        &mut record.redone[..m],
     );
-    print_ran(rt, name, answer)?;
-    let of_events = b" status: lifted: redone";
-    rows(rt, name, of_events, &status, &lifted, &redone)?;
-    let of_rows = b" stamps: levels: layers";
-    rows(rt, name, of_rows, &stamps, &levels, &layers)?;
-    row(rt, name, b" components", &components)?;
-    print_yields(rt, name, &yields)?;
-    row(rt, name, b" reached", &reached)
+    (ran(answer), record)
 }
 
-// The table with 7s behind its links, its events, and the table after them.
-fn run_on(
-    rt: &impl Print,
-    name: &[u8],
-    starts: &mut [u16],
-    links: &[u16],
-    given: &[u8],
+// Prints the events, then the answer, and the record and the table as they are afterwards.
+fn run(rt: &(impl Print + AllocGlobal), case: &Case<'_>) -> io::Result<()>
+    requires given_bound { length case.now.given.now ≤ 4 }
+    requires kinds_bound { length case.now.kinds.now ≤ 4097 }
+{
+    let name = case.name;
+    println!(rt; "{name} kinds{}", Row(case.kinds))?;
+    println!(rt; "{name} firsts{}", Row(case.firsts))?;
+    println!(rt; "{name} seconds{}", Row(case.seconds))?;
+    let mut starts = case.starts.to_vec(rt.alloc())?;
+    let mut links = case.links.to_vec(rt.alloc())?;
+    links.resize(16384, 7)?;
+    let (answer, record) = serve(case, &mut starts, &mut links);
+    print!(rt; "{name}")?;
+    sound(rt, answer)?;
+    record.print(rt, name)?;
+    println!(rt; "{name} starts{}", Row(&starts))?;
+    println!(rt; "{name} links{}", Row(&links))
+}
+
+// Events of these kinds, on vertex 0, which is the only one.
+fn run_limit(rt: &(impl Print + AllocGlobal), name: &str, kinds: &[u16]) -> io::Result<()>
+    requires { length kinds.now ≤ 4097 }
+{
+    run(
+        rt,
+        &Case {
+            name,
+            starts: &[0, 0],
+            links: &[],
+            given: &[0],
+            kinds,
+            firsts: kinds,
+            seconds: kinds,
+        },
+    )
+}
+
+fn run_nobody(rt: &(impl Print + AllocGlobal)) -> io::Result<()> {
+    run(
+        rt,
+        &Case {
+            name: "nobody",
+            starts: &[0],
+            links: &[],
+            given: &[],
+            kinds: &[1],
+            firsts: &[0],
+            seconds: &[0],
+        },
+    )
+}
+
+// Events on the chain of four vertices.
+fn run_chain(
+    rt: &(impl Print + AllocGlobal),
+    name: &str,
     kinds: &[u16],
     firsts: &[u16],
     seconds: &[u16],
 ) -> io::Result<()>
-    requires given_len_bound { length given.now ≤ 4 }
-    requires kinds_len_bound { length kinds.now ≤ 4097 }
+    requires { length kinds.now ≤ 4097 }
 {
-    let mut places = [7u16; 16384];
-    put(links, &mut places);
-    rows(rt, name, b" kinds: firsts: seconds", kinds, firsts, seconds)?;
-    run(rt, name, starts, &mut places, given, kinds, firsts, seconds)?;
-    row(rt, name, b" starts", starts)?;
-    row(rt, name, b" links", &places)
-}
-
-// Copies links to the front.
-fn put(links: &[u16], places: &mut [u16]) {
-    let mut i: usize = 0;
-    while i < links.len() {
-        if i < places.len() {
-            places[i] = links[i];
-        }
-        i += 1;
-    }
-}
-
-fn run_limits(rt: &impl Print) -> io::Result<()> {
-    run_on(
+    run(
         rt,
-        b"4096 events",
-        &mut [0, 0],
-        &[],
-        &[0],
-        &[0; 4096],
-        &[0; 4096],
-        &[0; 4096],
-    )?;
-    run_on(
-        rt,
-        b"4097 events",
-        &mut [0, 0],
-        &[],
-        &[0],
-        &[0; 4097],
-        &[0; 4097],
-        &[0; 4097],
-    )
-}
-
-fn run_chains(rt: &impl Print) -> io::Result<()> {
-    run_on(
-        rt,
-        b"still",
-        &mut [0, 1, 3, 5, 6],
-        &[1, 0, 2, 1, 3, 2],
-        &[0, 0, 0, 0],
-        &[],
-        &[],
-        &[],
-    )?;
-    run_on(
-        rt,
-        b"chain",
-        &mut [0, 1, 3, 5, 6],
-        &[1, 0, 2, 1, 3, 2],
-        &[0, 0, 0, 0],
-        &[0, 0, 0, 0],
-        &[0, 0, 3, 9],
-        &[9, 8, 7, 6],
-    )?;
-    run_on(
-        rt,
-        b"ring",
-        &mut [0, 1, 3, 5, 6],
-        &[1, 0, 2, 1, 3, 2],
-        &[0, 0, 0, 0],
-        &[0, 1, 2, 1],
-        &[0, 0, 1, 3],
-        &[7, 3, 2, 3],
+        &Case {
+            name,
+            starts: &[0, 1, 3, 5, 6],
+            links: &[1, 0, 2, 1, 3, 2],
+            given: &[0; 4],
+            kinds,
+            firsts,
+            seconds,
+        },
     )
 }
 
 fn main(rt: HostRuntime) -> io::Result<()> {
-    run_chains(&rt)?;
-    run_on(&rt, b"nobody", &mut [0], &[], &[], &[1], &[0], &[0])?;
-    run_limits(&rt)
+    run_chain(&rt, "still", &[], &[], &[])?;
+    run_chain(&rt, "chain", &[0, 0, 0, 0], &[0, 0, 3, 9], &[9, 8, 7, 6])?;
+    run_chain(&rt, "ring", &[0, 1, 2, 1], &[0, 0, 1, 3], &[7, 3, 2, 3])?;
+    run_nobody(&rt)?;
+    run_limit(&rt, "4096 events", &[0; 4096])?;
+    run_limit(&rt, "4097 events", &[0; 4097])
 }
