@@ -45,11 +45,10 @@ impl<'a> Case<'a> {
 
     // The numbers of a field, parted by spaces.
     pub fn numbers<T: FromStr<Err = ParseIntError> + Drop>(&mut self) -> io::Result<Vec<T>> {
-        let mut numbers = Vec::new(self.alloc);
-        for digits in self.text().split_whitespace() {
-            numbers.push(number(digits)?)?;
-        }
-        Ok(numbers)
+        self.text()
+            .split_whitespace()
+            .map(|digits| number(digits))
+            .try_collect(self.alloc)
     }
 
     // Three fields.

@@ -18,9 +18,9 @@ fn ran(answer: Ran) -> Result<Size, Refusal> {
     }
 }
 
-// A table, the anchored bytes that the session is given, and the events.
+// A session's table, the anchored bytes that it is given, and its events.
 #[derive(Drop)]
-struct Case<'a> {
+struct Session<'a> {
     name: &'a str,
     starts: &'a [u16],
     links: &'a [u16],
@@ -75,20 +75,24 @@ impl Record {
 }
 
 // Runs the events on the table; the record has a place for each vertex and event.
-fn serve(case: &Case<'_>, starts: &mut [u16], links: &mut [u16]) -> (Result<Size, Refusal>, Record)
-    requires given_bound { length case.now.given.now ≤ 4 }
-    requires kinds_bound { length case.now.kinds.now ≤ 4097 }
+fn serve(
+    session: &Session<'_>,
+    starts: &mut [u16],
+    links: &mut [u16],
+) -> (Result<Size, Refusal>, Record)
+    requires given_bound { length session.now.given.now ≤ 4 }
+    requires kinds_bound { length session.now.kinds.now ≤ 4097 }
 {
-    let n = case.given.len();
-    let m = case.kinds.len();
+    let n = session.given.len();
+    let m = session.kinds.len();
     let mut record = Record::of_sevens();
     let answer = session::run::run(
         starts,
         links,
-        case.given,
-        case.kinds,
-        case.firsts,
-        case.seconds,
+        session.given,
+        session.kinds,
+        session.firsts,
+        session.seconds,
         &mut record.anchored[..n],
         &mut record.levels[..n],
         &mut record.layers[..n],
@@ -104,18 +108,18 @@ fn serve(case: &Case<'_>, starts: &mut [u16], links: &mut [u16]) -> (Result<Size
 }
 
 // Prints the events, then the answer, and the record and the table as they are afterwards.
-fn run(rt: &(impl Print + AllocGlobal), case: &Case<'_>) -> io::Result<()>
-    requires given_bound { length case.now.given.now ≤ 4 }
-    requires kinds_bound { length case.now.kinds.now ≤ 4097 }
+fn run(rt: &(impl Print + AllocGlobal), session: &Session<'_>) -> io::Result<()>
+    requires given_bound { length session.now.given.now ≤ 4 }
+    requires kinds_bound { length session.now.kinds.now ≤ 4097 }
 {
-    let name = case.name;
-    println!(rt; "{name} kinds{}", Row(case.kinds))?;
-    println!(rt; "{name} firsts{}", Row(case.firsts))?;
-    println!(rt; "{name} seconds{}", Row(case.seconds))?;
-    let mut starts = case.starts.to_vec(rt.alloc())?;
-    let mut links = case.links.to_vec(rt.alloc())?;
+    let name = session.name;
+    println!(rt; "{name} kinds{}", Row(session.kinds))?;
+    println!(rt; "{name} firsts{}", Row(session.firsts))?;
+    println!(rt; "{name} seconds{}", Row(session.seconds))?;
+    let mut starts = session.starts.to_vec(rt.alloc())?;
+    let mut links = session.links.to_vec(rt.alloc())?;
     links.resize(16384, 7)?;
-    let (answer, record) = serve(case, &mut starts, &mut links);
+    let (answer, record) = serve(session, &mut starts, &mut links);
     print!(rt; "{name}")?;
     sound(rt, answer)?;
     record.print(rt, name)?;
@@ -129,7 +133,7 @@ fn run_limit(rt: &(impl Print + AllocGlobal), name: &str, kinds: &[u16]) -> io::
 {
     run(
         rt,
-        &Case {
+        &Session {
             name,
             starts: &[0, 0],
             links: &[],
@@ -144,7 +148,7 @@ fn run_limit(rt: &(impl Print + AllocGlobal), name: &str, kinds: &[u16]) -> io::
 fn run_nobody(rt: &(impl Print + AllocGlobal)) -> io::Result<()> {
     run(
         rt,
-        &Case {
+        &Session {
             name: "nobody",
             starts: &[0],
             links: &[],
@@ -168,7 +172,7 @@ fn run_chain(
 {
     run(
         rt,
-        &Case {
+        &Session {
             name,
             starts: &[0, 1, 3, 5, 6],
             links: &[1, 0, 2, 1, 3, 2],
