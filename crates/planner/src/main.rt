@@ -22,11 +22,16 @@ fn print(text: &[u8], out: &mut [u8]) -> usize
     }
 }
 
-// 65,537 bytes are enough to tell a text that is too long, and 64,320 hold every sheet.
+// One byte more than the longest text, which tells a text that is too long.
+const MOST_READ: u64 = 65_537;
+
+// The bytes of the longest sheet.
+const SHEET_ROOM: usize = 64_320;
+
 fn main(rt: HostRuntime) -> io::Result<()> {
     let mut text = Vec::new(rt.alloc());
-    rt.reader().take(65537).read_to_end(&mut text)?;
-    let mut out = [0u8; 64320];
-    let size = print(text.as_slice(), &mut out);
+    rt.reader().take(MOST_READ).read_to_end(&mut text)?;
+    let mut out = [0u8; SHEET_ROOM];
+    let size = print(&text, &mut out);
     rt.write_all(&out[..size])
 }
