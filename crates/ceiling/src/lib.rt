@@ -1,22 +1,18 @@
 // The ceiling of a search as an operation: it tests its input as the search does, marks apart, then works the ceiling out.
 #![tactic(auto)]
 
-ghost use Rattle.std.specs.Prelude.{◌≡◌};
+ghost use Rattle.std.specs.Prelude.{◌≡◌, Ok, Err};
 ghost use Rattle.table.specs.Size.{size_of};
 ghost use Rattle.table.specs.Guard.{answer};
 ghost use Rattle.anchored.specs.Ceiling.{ceiling as ceiling_in};
 ghost use Rattle.pool.specs.Input.{graph_of, anchored_by, Admitted};
 ghost use Rattle.ceiling.specs.Answers.{start_of, ceiling_of};
-ghost use Rattle.ceiling.specs.declared.Bounded.TheVariants.{Ceiling, Refused};
 
-// The answer: the ceiling, with the size of the table, or a refusal.
-#[derive(Drop)]
-pub enum Bounded {
-    Ceiling(u16, table::size::Size),
-    Refused(table::Refusal),
-}
+use marking::{test_free, test_vertex};
+use pool::input::admit;
+use table::{Refusal, Size};
 
-// Refusals 13, 14, 19, 20, 21, 15 and 16 of an admitted input, or `Passed`.
+// Refusals 13, 14, 19, 20, 21, 15 and 16 of an admitted input.
 fn test_start(
     starts: &[u16],
     links: &[u16],
@@ -24,18 +20,15 @@ fn test_start(
     levels: &[u16],
     layers: &[u16],
     x: usize,
-) -> table::Guard
+) -> Result<(), Refusal>
     requires { Admitted starts.now links.now anchored.now }
     ensures { result ≡ start_of starts.now links.now anchored.now levels.now layers.now x }
 {
-    let tested = marking::test_vertex(starts, links, anchored, levels, layers, x);
-    match tested {
-        table::Guard::Refused(refusal) => table::Guard::Refused(refusal),
-        table::Guard::Passed => marking::test_free(anchored, x),
-    }
+    test_vertex(starts, links, anchored, levels, layers, x)?;
+    test_free(anchored, x)
 }
 
-// The refusals of a call, or `Passed`.
+// The refusals of a call.
 fn test_ceiling(
     starts: &[u16],
     links: &[u16],
@@ -43,17 +36,14 @@ fn test_ceiling(
     levels: &[u16],
     layers: &[u16],
     x: usize,
-) -> table::Guard
+) -> Result<(), Refusal>
     ensures { result ≡ ceiling_of starts.now links.now anchored.now levels.now layers.now x }
 {
-    let admitted = pool::input::admit(starts, links, anchored);
-    match admitted {
-        table::Guard::Refused(refusal) => table::Guard::Refused(refusal),
-        table::Guard::Passed => test_start(starts, links, anchored, levels, layers, x),
-    }
+    admit(starts, links, anchored)?;
+    test_start(starts, links, anchored, levels, layers, x)
 }
 
-// The ceiling of the search from x: as many vertices, or more, as upstair walks reach.
+// The ceiling of the search from x, as many vertices, or more, as upstair walks reach, and the size of the table.
 pub fn ceiling(
     starts: &[u16],
     links: &[u16],
@@ -61,18 +51,12 @@ pub fn ceiling(
     levels: &[u16],
     layers: &[u16],
     x: usize,
-) -> Bounded
+) -> Result<(u16, Size), Refusal>
     ensures { let guard = ceiling_of starts.now links.now anchored.now levels.now layers.now x in
         let G = graph_of starts.now links.now in
-        result ≡ answer guard (Ceiling (ceiling_in G (anchored_by anchored.now) x) (size_of starts.now links.now)) Refused }
+        result ≡ answer guard (Ok (ceiling_in G (anchored_by anchored.now) x, size_of starts.now links.now)) Err }
 {
-    let tested = test_ceiling(starts, links, anchored, levels, layers, x);
-    match tested {
-        table::Guard::Refused(refusal) => Bounded::Refused(refusal),
-        table::Guard::Passed => {
-            let size = table::size::measure(starts, links);
-            let bound = walks::bound(starts, links, anchored, levels, layers, x);
-            Bounded::Ceiling(bound, size)
-        }
-    }
+    test_ceiling(starts, links, anchored, levels, layers, x)?;
+    let bound = walks::bound(starts, links, anchored, levels, layers, x);
+    Ok((bound, Size::measure(starts, links)))
 }

@@ -1,7 +1,7 @@
 // A collapse as an operation: it tests its input, then marks those whose level falls when x and its edges are gone.
 #![tactic(auto)]
 
-ghost use Rattle.std.specs.Prelude.{◌≡◌, ◌≤◌, ◌<◌, length};
+ghost use Rattle.std.specs.Prelude.{◌≡◌, ◌≤◌, ◌<◌, length, Ok, Err};
 ghost use Rattle.finite.specs.Count.{tabulate};
 ghost use Rattle.table.specs.Table.{vertices};
 ghost use Rattle.table.specs.Size.{size_of};
@@ -10,14 +10,8 @@ ghost use Rattle.marking.specs.Marking.{marking_of};
 ghost use Rattle.pool.specs.Sheet.{Leveled};
 ghost use Rattle.cascade.specs.Cascade.{fell_by};
 ghost use Rattle.collapse.specs.Answers.{fall_marks_of};
-ghost use Rattle.collapse.specs.declared.Collapsed.TheVariants.{Marked, Refused};
 
-// The answer of a collapse: the marks are set, with the size of the table, or a refusal.
-#[derive(Drop)]
-pub enum Collapsed {
-    Marked(table::size::Size),
-    Refused(table::Refusal),
-}
+use table::{Refusal, Size};
 
 // Marks with 1 those for whom fewer are kept than their level, and with 0 all others.
 fn copy_falls(levels: &[u16], support: &[u16; 1024], marks: &mut [u8])
@@ -58,18 +52,12 @@ pub fn collapse(
     layers: &[u16],
     x: usize,
     marks: &mut [u8],
-) -> Collapsed
+) -> Result<Size, Refusal>
     ensures { let guard = marking_of starts.now links.now anchored.now levels.now layers.now x (length marks.old) in
-        (result ≡ answer guard (Marked (size_of starts.now links.now)) Refused)
+        (result ≡ answer guard (Ok (size_of starts.now links.now)) Err)
         × (marks.new ≡ held guard (fall_marks_of starts.now links.now anchored.now x) marks.old) }
 {
-    let tested = marking::test_marking(starts, links, anchored, levels, layers, x, marks.len());
-    match tested {
-        table::Guard::Refused(refusal) => Collapsed::Refused(refusal),
-        table::Guard::Passed => {
-            let size = table::size::measure(starts, links);
-            write_falls(starts, links, anchored, levels, x, marks);
-            Collapsed::Marked(size)
-        }
-    }
+    marking::test_marking(starts, links, anchored, levels, layers, x, marks.len())?;
+    write_falls(starts, links, anchored, levels, x, marks);
+    Ok(Size::measure(starts, links))
 }

@@ -5,7 +5,11 @@ ghost use Rattle.std.specs.Prelude.{◌≡◌, ◌<◌, length};
 ghost use Rattle.pool.specs.Input.{Admitted};
 ghost use Rattle.marking.specs.Marking.{vertex_of, guard_of_free, marking_of};
 
-// Refusals 13, 14, 19, 20, 21 and 15 of an admitted input, or `Passed`.
+use level_sheet::check::test_sheet;
+use pool::input::admit;
+use table::{Refusal, Rule};
+
+// Refusals 13, 14, 19, 20, 21 and 15 of an admitted input.
 pub fn test_vertex(
     starts: &[u16],
     links: &[u16],
@@ -13,34 +17,29 @@ pub fn test_vertex(
     levels: &[u16],
     layers: &[u16],
     x: usize,
-) -> table::Guard
+) -> Result<(), Refusal>
     requires { Admitted starts.now links.now anchored.now }
     ensures { result ≡ vertex_of starts.now links.now anchored.now levels.now layers.now x }
 {
-    let accepted = level_sheet::check::test_sheet(starts, links, anchored, levels, layers);
-    match accepted {
-        table::Guard::Refused(refusal) => table::Guard::Refused(refusal),
-        table::Guard::Passed => {
-            if starts.len() - 1 <= x {
-                return table::refused(15, x);
-            }
-            table::Guard::Passed
-        }
+    test_sheet(starts, links, anchored, levels, layers)?;
+    if starts.len() - 1 <= x {
+        return Err(Refusal::new(Rule::NoVertex, x));
     }
+    Ok(())
 }
 
-// Refusal 16 of an anchored x, or `Passed`.
-pub fn test_free(anchored: &[u8], x: usize) -> table::Guard
+// Refusal 16 of an anchored x.
+pub fn test_free(anchored: &[u8], x: usize) -> Result<(), Refusal>
     requires { x < length anchored.now }
     ensures { result ≡ guard_of_free anchored.now x }
 {
     if anchored[x] == 1 {
-        return table::refused(16, x);
+        return Err(Refusal::new(Rule::Anchored, x));
     }
-    table::Guard::Passed
+    Ok(())
 }
 
-// The refusals of an operation with `room` places for marks, or `Passed`.
+// The refusals of an operation with `room` places for marks.
 pub fn test_marking(
     starts: &[u16],
     links: &[u16],
@@ -49,17 +48,12 @@ pub fn test_marking(
     layers: &[u16],
     x: usize,
     room: usize,
-) -> table::Guard
+) -> Result<(), Refusal>
     ensures { result ≡ marking_of starts.now links.now anchored.now levels.now layers.now x room }
 {
-    let admitted = pool::input::admit(starts, links, anchored);
-    match admitted {
-        table::Guard::Refused(refusal) => table::Guard::Refused(refusal),
-        table::Guard::Passed => {
-            if room != starts.len() - 1 {
-                return table::refused(12, 0);
-            }
-            test_vertex(starts, links, anchored, levels, layers, x)
-        }
+    admit(starts, links, anchored)?;
+    if room != starts.len() - 1 {
+        return Err(Refusal::new(Rule::Lent, 0));
     }
+    test_vertex(starts, links, anchored, levels, layers, x)
 }

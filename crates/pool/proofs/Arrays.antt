@@ -3,12 +3,12 @@ use mathlib.Core.Path.{◌≡◌, ap, ◌∙◌}
 use mathlib.Core.List.{List}
 use Prim.Native.Nat.{ℕ, ◌+◌, ◌≤◌, ◌<◌}
 use native.Mathlib.Omega.{arith}
-use lib.ListN.{length, get_or, set, replicate, get_or-replicate}
+use lib.ListN.{take, length, get_or, set, replicate, get_or-replicate}
 use lib.Seq.{get_or-set_same, get_or-set_other}
 use lib.Dec.{eqb, eqb→eq}
 use Rattle.finite.specs.Count.{tabulate}
 use Rattle.finite.proofs.Tests.{split, neqb}
-use Rattle.finite.proofs.Count.{tabulate_cong}
+use Rattle.finite.proofs.Count.{tabulate_cong, tabulate-take}
 use Rattle.pool.specs.Arrays.{Holds}
 
 -- a loop that stores f 0, f 1, ..: nothing stored, one more stored
@@ -27,3 +27,7 @@ filled_holds xs m x n e h v b = ap (λ ys. get_or ys v 0) e ∙ get_or-replicate
 -- a copy of the first n places of an array that holds f
 pub copied : (f : ℕ → ℕ) (from : List ℕ) {to : List ℕ} {m n : ℕ} → m ≡ n → Holds from n f → to ≡ tabulate (λ v. get_or from v 0) m → to ≡ tabulate f n
 copied f from {n = n} long holds e = e ∙ ap (tabulate (λ v. get_or from v 0)) long ∙ tabulate_cong (λ v. get_or from v 0) f n holds
+
+-- the same, as `copy` leaves it
+pub copied-front : (f : ℕ → ℕ) (from : List ℕ) {to : List ℕ} {m n : ℕ} → m ≡ n → n ≤ length from → Holds from n f → to ≡ take m from → to ≡ tabulate f n
+copied-front f from {n = n} long within holds e = e ∙ ap (λ k. take k from) long ∙ tabulate-take f from n within holds

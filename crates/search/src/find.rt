@@ -11,7 +11,7 @@ use candidates::Queue;
 use support::Support;
 
 // How many the search lifts, and how many it reaches.
-#[derive(Drop)]
+#[derive(Clone, Copy, Debug, PartialEq, Eq)]
 pub struct Found {
     pub lifted: usize,
     pub reached: usize,

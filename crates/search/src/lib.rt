@@ -5,4 +5,4 @@ pub mod find; // the search on the defined sheet
 pub mod operation; // the search as an operation
 
 pub use find::{Found, search};
-pub use operation::{Searched, followers};
+pub use operation::followers;
