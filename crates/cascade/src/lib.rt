@@ -23,7 +23,7 @@ struct Fallen<'a> {
     end: usize,
 }
 
-impl<'a> Fallen<'a> {
+impl Fallen<'_> {
     // Withdraws the vertex at `head` of those fallen from its neighbors, and puts those that then fall at the end.
     fn withdraw(
         &mut self,
