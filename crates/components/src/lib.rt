@@ -20,7 +20,7 @@ pub enum Listed {
     Refused(table::Refusal),
 }
 
-// How many of n vertices have each component number, at the number's place.
+// How many of n vertices have each component number, at the number's place. An anchored vertex has 65,535, which is no place.
 fn count_members(n: usize, component: &[u16; 1024], size: &mut [u16; 1024])
     requires { n ≤ 1024 }
     ensures { Holds size.new n (members component.now n) }
