@@ -10,8 +10,10 @@ use Rattle.table.specs.Table.{vertices}
 use Rattle.table.specs.Size.{size_of}
 use Rattle.table.specs.Guard.{refused, answer, past}
 use Rattle.table.specs.Guard.{clear}
+use Rattle.table.specs.Rule.{Refusal}
+use Rattle.std.specs.Prelude.{Result, Ok, Err}
 use Rattle.table.specs.declared.size.Size.{Size}
-use Rattle.table.proofs.Guards.{both-passed, accepted_only, past-past}
+use Rattle.table.proofs.Guards.{both-passed, accepted_only, past-past, same-ok}
 use Rattle.anchored.specs.Followers.{followers, reached}
 use Rattle.anchored.specs.Ceiling.{ceiling}
 use Rattle.anchored.proofs.Ceiling.{ceiling-reached, ceiling-followers}
@@ -21,9 +23,8 @@ use Rattle.level_sheet.specs.SheetCheck.{Accepted}
 use Rattle.marking.specs.Marking.{vertex_of, guard_of_free, marking_of}
 use Rattle.marking.proofs.Marking.{vertex-sound, free-sound}
 use Rattle.search.specs.Answers.{search_of, followers_of}
-use Rattle.search.specs.declared.operation.Searched.TheVariants.{Found}
+use Rattle.search.specs.declared.find.Found.{Found}
 use Rattle.ceiling.specs.Answers.{start_of, ceiling_of}
-use Rattle.ceiling.specs.declared.Bounded.TheVariants.{Ceiling, Refused}
 -- the computed cases come before the laws, so that a wrong definition is refused at a figure
 use Rattle.ceiling.specs.Cases.{refusals}
 
@@ -53,18 +54,18 @@ module _ (s l a lev lay : List ℕ) (x : ℕ) where
       (given, start.0, start.1)
 
   -- card 11, of the two calls: a ceiling answered is below neither count that the search from x answers, whatever room it is lent for marks
-  pub answers_bound : (m : ℕ) {c lifted wide : ℕ} {size given : Size}
-      → answer (ceiling_of s l a lev lay x) (Ceiling (ceiling (graph_of s l) (anchored_by a) x) (size_of s l)) Refused ≡ Ceiling c size
-      → followers_of s l a lev lay x m ≡ Found lifted wide given → (lifted ≤ c) × (wide ≤ c)
+  pub answers_bound : (m : ℕ) {c : ℕ} {found : Found} {size given : Size}
+      → ◌≡◌ {A = Result (ℕ × Size) Refusal} (answer (ceiling_of s l a lev lay x) (Ok (ceiling (graph_of s l) (anchored_by a) x, size_of s l)) Err) (Ok (c, size))
+      → followers_of s l a lev lay x m ≡ Ok (found, given) → (found.lifted ≤ c) × (found.reached ≤ c)
   unfolding followers_of
-  answers_bound m {c} {lifted} {wide} e f =
+  answers_bound m {c} {found} e f =
       let G = graph_of s l in
       let A = anchored_by a in
-      let told = accepted_only (ceiling_of s l a lev lay x) _ _ (λ r q. let z : ◌≡◌ {A = ℕ} 0 1 = cc in absurd (omega arith)) e in
-      let found = accepted_only (search_of s l a lev lay x m) _ _ (λ r q. let z : ◌≡◌ {A = ℕ} 0 1 = cc in absurd (omega arith)) f in
-      let bound : ceiling G A x ≡ c = let q = told.1 in cc in
-      let lifts : followers G A x ≡ lifted = let q = found.1 in cc in
-      let reaches : reached G A x ≡ wide = let q = found.1 in cc in
+      let told = accepted_only (ceiling_of s l a lev lay x) _ _ (λ r q. cc) e in
+      let counted = accepted_only (search_of s l a lev lay x m) _ _ (λ r q. cc) f in
+      let bound : ceiling G A x ≡ c = ap (λ (p : ℕ × Size). p.0) (same-ok told.1) in
+      let lifts : followers G A x ≡ found.lifted = ap (λ (p : Found × Size). p.0.lifted) (same-ok counted.1) in
+      let reaches : reached G A x ≡ found.reached = ap (λ (p : Found × Size). p.0.reached) (same-ok counted.1) in
       let table = (ceiling-sound told.0).0.table in
       let L = simple table in
       let small : vertices s ≤ 65535 = omega (arith, table.small) in

@@ -57,3 +57,7 @@ exit out guard accepted tells was left = left.1 ∙ ap Err left.2 ∙ sym (hande
 -- and where it goes on
 pub goes_on : {guard told : Guard} → told ≡ guard → told ≡ clear → guard ≡ clear
 goes_on tells was = sym tells ∙ was
+
+-- what two equal answers accept is equal
+pub same-ok : {T : Type 0} {x y : T} → ◌≡◌ {A = Result T Refusal} (Ok x) (Ok y) → x ≡ y
+same-ok e = cc
