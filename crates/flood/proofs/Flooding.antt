@@ -185,17 +185,6 @@ module _ {G : Graph} {A : ℕ → Bool} where
 
   -- ---- a visit
 
-  -- it starts with no neighbor seen
-  pub visit-none : {start u : ℕ} {labels queue : List ℕ} {tail : ℕ} → Queued G A (start + 1) labels queue tail → Visiting G A start u [] labels queue tail labels queue tail
-  visit-none q = record {
-    queued = q;
-    grown = omega arith;
-    kept = λ v s. refl;
-    order = λ i h. refl;
-    added = λ i g h. absurd (omega arith);
-    reached = λ w i. absurd i;
-  }
-
   module _ {start u : ℕ} {seen labels₀ queue₀ : List ℕ} {tail₀ : ℕ} {labels queue : List ℕ} {tail : ℕ} (g : Visiting G A start u seen labels₀ queue₀ tail₀ labels queue tail) (w : ℕ) where
     -- a neighbor that is to get no label is anchored, of another level, or has one
     pub visit_pass : (T (not (A w)) → level G A w ≡ level G A u → T (not (blank labels w)))
@@ -379,10 +368,6 @@ module _ {s l pending₀ labels₀ queue₀ pending labels queue seen : List ℕ
           let none = joins-blank P m.0 m.1 w listed (omega arith) in
           (visit-label m.0 w (simple table) table.small P.below P.vertex P.label (joins_yes P m.0 m.1 w listed e) none, pends-set m.1 w start b.0 m.0.queued.long (omega arith));
     }
-
--- no neighbor is seen
-pub visits_none : {s l pending labels queue : List ℕ} {k start u tail : ℕ} → Visits s l pending labels queue k start u tail [] pending labels queue tail
-visits_none = record { moves = λ a P. (visit-none P.queued, P.pends) }
 
 -- ---- a flood over the arrays
 

@@ -131,15 +131,6 @@ module _ {degree₀ level₀ layer₀ queue₀ degree level layer queue : List �
 -- ---- looking for the first turn's vertices
 
 module _ {a degree level layer queue : List ℕ} {k tail : ℕ} where
-  -- no vertex is looked at
-  pub looks-none : {seen : ℕ} → Long degree level layer queue → Looks a degree level layer queue level layer queue k seen seen tail tail
-  looks-none long = record {
-    moves = λ G size last next P. rw (slice_empty tail queue, append-nil) P;
-    kept = refl;
-    grows = omega arith;
-    long = long;
-  }
-
   module _ {v : ℕ} (long : Long degree level layer queue) where
     -- v is anchored, or its degree is not k
     pub looks_pass : (T (not (anchored_by a v)) → get_or degree v 0 ≡ k → ⊥) → Looks a degree level layer queue level layer queue k v (v + 1) tail tail

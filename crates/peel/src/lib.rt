@@ -131,12 +131,17 @@ impl<'a> Worksheet<'a> {
 // The number of neighbors of each vertex, 0 for an anchored one, into the first n places.
 fn degrees(starts: &[u16], links: &[u16], anchored: &[u8], degree: &mut [u16; 1024])
     requires admitted { Admitted starts.now links.now anchored.now }
-    ensures { (length degree.new ≡ 1024) × Holds degree.new (vertices starts.now) (first_degree (graph_of starts.now links.now) (anchored_by anchored.now)) }
+    ensures long { length degree.new ≡ 1024 }
+    ensures holds { Holds degree.new (vertices starts.now) (first_degree (graph_of starts.now links.now) (anchored_by anchored.now)) }
 {
     let n = starts.len() - 1;
-    for v in 0..n {
+    for (v, d) in degree[..n].iter_mut().enumerate() {
         let part = table::neighbors(starts, links, v);
-        degree[v] = (anchored[v] != 1) as u16 * part.len() as u16;
+        *d = if anchored[v] == 1 {
+            0
+        } else {
+            part.len() as u16
+        };
     }
 }
 

@@ -6,6 +6,6 @@ use Rattle.peel.proofs.degrees.Given as goal
 
 abbrev pub invariant-loop-v : goal.invariant-loop-v
 invariant-loop-v l = record {
-  long : length l.degree ≡ 1024;
-  holds : Holds l.degree l.v (first_degree (graph_of l.starts l.links) (anchored_by l.anchored));
+  long : length l.d-items ≡ l.n;
+  holds : Holds l.d-items l.v (first_degree (graph_of l.starts l.links) (anchored_by l.anchored));
 }

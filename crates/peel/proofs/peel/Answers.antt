@@ -19,8 +19,8 @@ loop-sheet-init c =
     record {
       same_sheet = (refl, refl);
       bound = omega arith;
-      long = record { degrees = d.0; levels = c.fill.ensures.len ∙ long-level; layers = c.fill-2.ensures.len ∙ long-layer; places = refl };
-      peels = first-shell (simple t) d.1 (filled_holds _ 1024 65535 _ e t.small) (filled_holds _ 1024 0 _ f t.small);
+      long = record { degrees = d.long; levels = c.fill.ensures.len ∙ long-level; layers = c.fill-2.ensures.len ∙ long-layer; places = refl };
+      peels = first-shell (simple t) d.holds (filled_holds _ 1024 65535 _ e t.small) (filled_holds _ 1024 0 _ f t.small);
     }
 
 pub shell-requires-clause-k_bound : goal.shell-requires-clause-k_bound
