@@ -1,4 +1,4 @@
-use Rattle.std.proofs.Common.{◌≡◌, ℕ, ◌+◌, ◌<◌, List, [], ◌∷◌, ◌++◌, length, get_or, take, ◌∙◌, subst, arith}
+use Rattle.std.proofs.Common.{◌≡◌, ℕ, ◌+◌, ◌<◌, List, [], ◌∷◌, ◌++◌, length, get_or, set, take, ◌∙◌, subst, arith}
 use Rattle.std.proofs.lemmas.List.{take_more}
 use Rattle.finite.specs.Count.{In}
 use Rattle.finite.proofs.Count.{in_at}
@@ -39,6 +39,8 @@ loop-neighbor-preserved c =
     elim c.if-self-w.branch [
       | then-self-w way ↦
           let e = way.number.ensures in
-          rw (more, way.self-is, way.end-is, e.pending, e.component, e.queue) (record { same_numbers = e.same_numbers ∙ inv.same_numbers; visits = visits_label inv.visits _ i (omega (arith, way.if-self-w.true)) })
+          let component : way.number.new.self.component.now ≡ set c.loop-neighbor.self.component.now (get_or part j 0) c.args.start = cc in
+          rw (more, way.self-is, way.end-is, e.pending, component, e.queue)
+          (record { same_numbers = e.same_numbers ∙ inv.same_numbers; visits = visits_label inv.visits _ i (omega (arith, way.if-self-w.true)) })
       | else-self-w way ↦ rw (more, way.self-is, way.end-is) (record { same_numbers = inv.same_numbers; visits = visits_pass inv.visits _ i way.if-self-w.false })
     ]

@@ -1,5 +1,5 @@
 -- Each way out is a step of the peeling.
-use Rattle.std.proofs.Common.{refl, arith}
+use Rattle.std.proofs.Common.{◌≡◌, set, refl, arith}
 use borrow.Author.Tests.{ne_eqb}
 use Rattle.finite.proofs.Tests.{neqb, of_false}
 use Rattle.peel.proofs.Steps.{looks_pass, look_room, looks_settle}
@@ -15,7 +15,8 @@ pub returns-then-anchored-v-ne1-clause-looks : goal.returns-then-anchored-v-ne1-
 returns-then-anchored-v-ne1-clause-looks c =
     let p = c.requires in
     let e = c.settle.ensures in
-    (e.degree, rw (e.level, e.layer, e.queue, e.tail) (looks_settle p.long p.can_look (of_false _ (ne_eqb _ _ c.if-anchored-v-ne1.true)) c.if-self-v.true))
+    let level : c.settle.new.self.level.now ≡ set c.args.self.now.level.now c.args.v c.args.k = cc in
+    (e.degree, rw (level, e.layer, e.queue, e.tail) (looks_settle p.long p.can_look (of_false _ (ne_eqb _ _ c.if-anchored-v-ne1.true)) c.if-self-v.true))
 
 pub returns-else-self-v-clause-looks : goal.returns-else-self-v-clause-looks
 returns-else-self-v-clause-looks c =

@@ -1,5 +1,5 @@
 -- Each way out is a step of the peeling.
-use Rattle.std.proofs.Common.{arith}
+use Rattle.std.proofs.Common.{◌≡◌, ◌+◌, set, arith}
 use Rattle.peel.proofs.Steps.{struck-below, struck-room, strikes_lower, strikes_fall}
 use Rattle.peel.proofs.Worksheet.strike.Goals as goal
 
@@ -24,7 +24,10 @@ pub returns-then-d-k-clause-strikes : goal.returns-then-d-k-clause-strikes
 returns-then-d-k-clause-strikes c =
     let p = c.requires in
     let e = c.settle.ensures in
-    rw (e.degree, e.level, e.layer, e.queue, e.tail) (strikes_fall p.long p.can_strike c.if-d-k.true)
+    let old = c.args.self.now in
+    let level : c.settle.new.self.level.now ≡ set old.level.now c.args.w c.args.k = cc in
+    let layer : c.settle.new.self.layer.now ≡ set old.layer.now c.args.w (c.args.turn + 1) = cc in
+    rw (e.degree, level, layer, e.queue, e.tail) (strikes_fall p.long p.can_strike c.if-d-k.true)
 
 pub returns-else-d-k-clause-strikes : goal.returns-else-d-k-clause-strikes
 returns-else-d-k-clause-strikes c =
