@@ -176,6 +176,7 @@ pub fn peel(
     degrees(starts, links, anchored, &mut sheet.degree);
     let free = count_free(anchored, starts.len() - 1);
     let mut k: u16 = 0;
+    // How many shells there are shows only as they go.
     while sheet.tail < free {
         sheet.shell(starts, links, anchored, k);
         k += 1;
