@@ -48,8 +48,9 @@ impl Queue {
         ensures places { self.new.places ≡ set self.old.places self.old.tail v }
         ensures tail { self.new.tail ≡ self.old.tail + 1 }
     {
-        self.places[self.tail] = v;
-        self.tail += 1;
+        let tail = self.tail; // read once: the write to a place may not move it
+        self.places[tail] = v;
+        self.tail = tail + 1;
     }
 }
 
