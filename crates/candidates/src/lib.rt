@@ -48,7 +48,7 @@ impl Queue {
         ensures places { self.new.places ≡ set self.old.places self.old.tail v }
         ensures tail { self.new.tail ≡ self.old.tail + 1 }
     {
-        let tail = self.tail; // read once: the write to a place may not move it
+        let tail = self.tail; // read once, not again after the write
         self.places[tail] = v;
         self.tail = tail + 1;
     }
