@@ -82,8 +82,8 @@ module _ {s₀ l₀ s l : List ℕ} {kept : Record} (right : Right s₀ l₀ kep
   }
 
   -- what working on the record asks of it
-  pub renewable : Admitted s l kept.anchored × ((e.first < vertices s) × (e.second < vertices s))
-  renewable = (still_admitted, (omega (arith, ok.first, size), omega (arith, ok.second, size)))
+  pub renewable : Admitted s l kept.anchored × (e.first < vertices s) × (e.second < vertices s)
+  renewable = (still_admitted, omega (arith, ok.first, size), omega (arith, ok.second, size))
 
   -- the record was worked out for the graph before
   worked_before : Before s l e.first e.second kept G

@@ -29,7 +29,8 @@ fn mark_rows(
     marks: &mut [u8; 1024],
 )
     requires sound_table { SoundTable starts.now links.now }
-    requires a_bound { (a < vertices starts.now) × (b < vertices starts.now) }
+    requires a_bound { a < vertices starts.now }
+    requires b_bound { b < vertices starts.now }
     ensures { Finds starts.now links.now a b kept.now next.now.columns next.now.bare marks.new }
 {
     let n = starts.len() - 1;
@@ -51,7 +52,8 @@ fn mark_rows(
 // The record for a table in which the edge between a and b is new or gone: the rows that it makes stale are counted afresh and stamped.
 fn renew(starts: &[u16], links: &[u16], kept: Record, a: usize, b: usize, position: u16) -> Stepped
     requires admitted { Admitted starts.now links.now kept.anchored }
-    requires a_bound { (a < vertices starts.now) × (b < vertices starts.now) }
+    requires a_bound { a < vertices starts.now }
+    requires b_bound { b < vertices starts.now }
     ensures { Renews starts.now links.now a b position kept result }
 {
     let mut next = kept;

@@ -30,7 +30,8 @@ impl Refused {
     }
 }
 
-// The three numbers of a request, as C is given them; `accepted` and `refused` below make them.
+// The three numbers of a request, each lent to C as it stands: 0 and two numbers, or a status above 0 and zeros.
+// `accepted` and `refused` below make them.
 #[derive(Clone, Copy, Debug, PartialEq, Eq)]
 pub struct Row {
     pub status: u16,

@@ -16,5 +16,8 @@ edit-requires-clause-editable c = edge_editable _ _ c.in_default.ensures
 pub renew-requires-clause-a_bound : goal.renew-requires-clause-a_bound
 renew-requires-clause-a_bound c = (renewable c.requires.right (edge_editable _ _ c.in_default.ensures) c.edit.ensures).1
 
+pub renew-requires-clause-b_bound : goal.renew-requires-clause-b_bound
+renew-requires-clause-b_bound c = (renewable c.requires.right (edge_editable _ _ c.in_default.ensures) c.edit.ensures).2
+
 pub returns : goal.returns
 returns c = let x = c.args in changed_turned (is_adding x.change) x.a x.b c.requires.right c.in_default.ensures c.edit.ensures c.renew.ensures
