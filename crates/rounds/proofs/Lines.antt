@@ -5,11 +5,10 @@ use mathlib.Core.Bool.{Bool, false}
 use mathlib.Core.List.{List, ◌++◌}
 use Prim.Native.Nat.{ℕ, ◌<◌}
 use native.Mathlib.Omega.{arith}
-use lib.ListN.{replicate}
 use lib.Dec.{eqb}
 use borrow.Author.Tests.{lt-ltb, le-ltb}
 use Rattle.finite.specs.Bytes.{bytes}
-use Rattle.finite.proofs.Count.{tabulate_cong, zeros-at}
+use Rattle.finite.proofs.Count.{tabulate_cong}
 use Rattle.anchored.specs.Graph.{Graph}
 use Rattle.anchored.specs.Followers.{follows, mark}
 use Rattle.anchored.specs.Session.{Plain, row_of}
@@ -44,7 +43,7 @@ module _ (G : Graph) (S : Plain) (x : ℕ) where
       ∙ ap (shown G.size number) (sym (round_some h))
 
   -- no marks give the line of nobody
-  pub line_none : (number m : ℕ) → x ≡ G.size → line_of number None (lifted_by (replicate m 0)) G.size 0 ≡ shown G.size number (round_for G S x)
-  line_none number m z =
-      line_same number None (lifted_by (replicate m 0)) (λ v. false) G.size 0 (λ v b. ap (λ (k : ℕ). eqb k 2) (zeros-at m v))
+  pub line_none : (number : ℕ) (marks : List ℕ) → x ≡ G.size → Holds marks G.size (λ v. 0) → line_of number None (lifted_by marks) G.size 0 ≡ shown G.size number (round_for G S x)
+  line_none number marks z holds =
+      line_same number None (lifted_by marks) (λ v. false) G.size 0 (λ v b. ap (λ (k : ℕ). eqb k 2) (holds v b))
       ∙ ap (shown G.size number) (sym (round_none z))

@@ -7,11 +7,12 @@ use Prim.Native.Nat.{ℕ, suc, ◌+◌, ◌*◌, ◌≤◌, ◌<◌}
 use native.Mathlib.Nat.{mul-le-mul_right, suc-mul}
 use native.Mathlib.Numerals.{add-one}
 use native.Mathlib.Omega.{arith}
-use lib.ListN.{length, get_or, replicate}
+use lib.ListN.{length, take, get_or, replicate, length-replicate}
+use Rattle.std.proofs.lemmas.List.{get_or-take, length-take}
 use lib.Dec.{ltb, eqb, ltb→lt, nltb→le}
 use Rattle.finite.specs.Count.{tabulate}
 use Rattle.finite.proofs.Tests.{and_r, split, neqb}
-use Rattle.finite.proofs.Count.{length-tabulate}
+use Rattle.finite.proofs.Count.{length-tabulate, zeros-at}
 use Rattle.table.specs.Table.{vertices}
 use Rattle.anchored.specs.Graph.{Graph}
 use Rattle.anchored.specs.Followers.{mark}
@@ -49,16 +50,23 @@ module _ {s l : List ℕ} {kept : Record} (right : Right s l kept) (x number : �
   G = graph_of s l
 
   module _ {o : List ℕ} {at : ℕ} {o_now : List ℕ} {end : ℕ} where
-    -- the line written is that of the round, for a vertex and for nobody
-    pub written-some : (marks : List ℕ) {left : Stepped} → x < vertices s → Holds marks (vertices s) (mark G (anchored_by kept.anchored) x) → Turned s l number x kept left
-        → Written o at (line_of number (Some x) (lifted_by marks) (vertices s) left.row.redone) o_now end
+    -- the line written is that of the round, for a vertex and for nobody: by the first marks, one a vertex
+    pub written-some : (marks : List ℕ) {left : Stepped} → x < vertices s → vertices s ≤ length marks → Holds marks (vertices s) (mark G (anchored_by kept.anchored) x)
+        → Turned s l number x kept left
+        → Written o at (line_of number (Some x) (lifted_by (take (vertices s) marks)) (length (take (vertices s) marks)) left.row.redone) o_now end
         → Written o at (shown (vertices s) number (round_for G (plain_of kept) x)) o_now end
-    written-some marks {left} h holds turned w =
-        written_as (line_some G (plain_of kept) x number left.row.redone marks h holds (ap (λ z. z.redone) turned.row)) w
+    written-some marks {left} h long holds turned w =
+        let n : length (take (vertices s) marks) ≡ vertices s = omega (arith, length-take (vertices s) marks) in
+        let held : Holds (take (vertices s) marks) (vertices s) (mark G (anchored_by kept.anchored) x) = λ v b. get_or-take (vertices s) marks v 0 b ∙ holds v b in
+        written_as (line_some G (plain_of kept) x number left.row.redone (take (vertices s) marks) h held (ap (λ z. z.redone) turned.row)) (rw n at w)
 
-    pub written_none : (m : ℕ) → x ≡ vertices s → Written o at (line_of number None (lifted_by (replicate m 0)) (vertices s) 0) o_now end
+    pub written_none : (m : ℕ) → x ≡ vertices s → vertices s ≤ m
+        → Written o at (line_of number None (lifted_by (take (vertices s) (replicate m 0))) (length {A = ℕ} (take (vertices s) (replicate m 0))) 0) o_now end
         → Written o at (shown (vertices s) number (round_for G (plain_of kept) x)) o_now end
-    written_none m z w = written_as (line_none G (plain_of kept) x number m z) w
+    written_none m z long w =
+        let zeros : List ℕ = replicate m 0 in
+        let n : length (take (vertices s) zeros) ≡ vertices s = omega (arith, length-take (vertices s) zeros, length-replicate {A = ℕ} m 0) in
+        written_as (line_none G (plain_of kept) x number (take (vertices s) zeros) z (λ v b. get_or-take (vertices s) zeros v 0 b ∙ zeros-at m v)) (rw n at w)
 
   -- the record after it stands for the turn of x
   pub keeps_some : {left : Stepped} → Turned s l number x kept left → Keeps s l left.kept (turn G number x (plain_of kept))

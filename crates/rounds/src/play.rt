@@ -37,7 +37,7 @@ fn play(
     let n = starts.len() - 1;
     let mut marks = [0u8; 1024];
     let Some(x) = x else {
-        return sheet::line::put_line(out, at, round, None, &marks, n, 0);
+        return sheet::line::put_line(out, at, round, None, &marks[..n], 0);
     };
     let columns = &kept.columns;
     search::search(
@@ -56,8 +56,7 @@ fn play(
         at,
         round,
         Some(x as u16),
-        &marks,
-        n,
+        &marks[..n],
         stepped.row.redone,
     )
 }

@@ -7,25 +7,24 @@ ghost use Rattle.sheet.specs.Parted.{Parted};
 ghost use Rattle.sheet.specs.Line.{two_digits, four_digits, sign, lifted_by, signs, name_of};
 ghost use Rattle.sheet.specs.Line.{round_part, retain_part, marks_part, redone_part, line_of, refused_line};
 
-// A round's line: whom it retains, nobody where none is left to retain, the vertices that it lifted (mark 2), and how many rows it redid.
+// A round's line: whom it retains, nobody where none is left to retain, the vertices that it lifted, by the marks of all (2), and how many
+// rows it redid.
 // Answers the place behind the line.
 pub fn put_line(
     out: &mut [u8],
     at: usize,
     round: u16,
     chosen: Option<u16>,
-    marks: &[u8; 1024],
-    n: usize,
+    marks: &[u8],
     redone: u16,
 ) -> usize
-    requires n_bound { n ≤ 1024 }
-    requires n_in_bounds { at + (48 + n) ≤ length out.old }
-    ensures { Written out.old at (line_of round chosen (lifted_by marks.now) n redone) out.new result }
+    requires { at + (48 + length marks.now) ≤ length out.old }
+    ensures { Written out.old at (line_of round chosen (lifted_by marks.now) (length marks.now) redone) out.new result }
 {
     let mut line = Writer { out, at };
     line.round(round);
     line.retain(chosen);
-    line.marks(marks, n);
+    line.marks(marks);
     line.redone(redone);
     line.at
 }
@@ -82,14 +81,13 @@ impl<'a> Writer<'a> {
     }
 
     // ` (marks .++.)`
-    fn marks(&mut self, marks: &[u8; 1024], n: usize)
-        requires n_bound { n ≤ 1024 }
-        requires n_in_bounds { HasRoom self.old (9 + n) }
+    fn marks(&mut self, marks: &[u8])
+        requires { HasRoom self.old (9 + length marks.now) }
         ensures same_reference { self.new.out.ghost_name ≡ self.old.out.ghost_name }
-        ensures wrote { Wrote self.old (marks_part (lifted_by marks.now) n) self.new }
+        ensures wrote { Wrote self.old (marks_part (lifted_by marks.now) (length marks.now)) self.new }
     {
         self.text(b" (marks ");
-        self.signs(marks, n);
+        self.signs(marks);
         self.text(b")");
     }
 
@@ -117,14 +115,13 @@ impl<'a> Writer<'a> {
     }
 
     // One sign a vertex.
-    fn signs(&mut self, marks: &[u8; 1024], n: usize)
-        requires n_bound { n ≤ 1024 }
-        requires n_in_bounds { HasRoom self.old n }
+    fn signs(&mut self, marks: &[u8])
+        requires { HasRoom self.old (length marks.now) }
         ensures same_reference { self.new.out.ghost_name ≡ self.old.out.ghost_name }
-        ensures wrote { Wrote self.old (signs (lifted_by marks.now) n) self.new }
+        ensures wrote { Wrote self.old (signs (lifted_by marks.now) (length marks.now)) self.new }
     {
-        for v in 0..n {
-            self.byte(sign_of(marks[v]));
+        for mark in marks {
+            self.byte(sign_of(*mark));
         }
     }
 

@@ -1,5 +1,5 @@
 -- The four calls write one behind the other. Assumes nothing.
-use Rattle.std.proofs.Common.{rules, arith}
+use Rattle.std.proofs.Common.{length, rules, arith}
 use Rattle.sheet.specs.Line.{line_of, lifted_by}
 use Rattle.sheet.proofs.Written.{written_then, written-length}
 use Rattle.sheet.proofs.Lines.{retain_length, marks-length}
@@ -7,7 +7,7 @@ use Rattle.sheet.proofs.line.put_line.Goals as goal
 
 pub redone-requires : goal.redone-requires
 redone-requires c =
-    omega (arith, retain_length c.args.chosen, marks-length (lifted_by c.args.marks.now) c.args.n, written-length c.round.ensures.wrote, written-length c.retain.ensures.wrote, written-length c.marks.ensures.wrote)
+    omega (arith, retain_length c.args.chosen, marks-length (lifted_by c.args.marks.now) (length c.args.marks.now), written-length c.round.ensures.wrote, written-length c.retain.ensures.wrote, written-length c.marks.ensures.wrote)
 
 pub returns : goal.returns
 unfolding line_of

@@ -5,14 +5,14 @@ use Rattle.sheet.specs.Line.{sign_at, lifted_by}
 use Rattle.sheet.proofs.Written.{written_none, written_more, written-length}
 use Rattle.sheet.proofs.line.Writer.signs.Goals as goal
 
-pub loop-v-init : goal.loop-v-init
-loop-v-init c = record { same = refl; wrote = written_none (sign_at (lifted_by c.args.marks.now)) }
+pub loop-mark-init : goal.loop-mark-init
+loop-mark-init c = record { same = refl; wrote = written_none (sign_at (lifted_by c.args.marks.now)) }
 
 pub byte-requires : goal.byte-requires
-byte-requires c = omega (arith, length-tabulate, written-length c.loop-v.invariant.wrote)
+byte-requires c = omega (arith, length-tabulate, written-length c.loop-mark.invariant.wrote)
 
-pub loop-v-preserved : goal.loop-v-preserved
-loop-v-preserved c = record {
+pub loop-mark-preserved : goal.loop-mark-preserved
+loop-mark-preserved c = record {
   same = search rules;
-  wrote = written_more (sign_at (lifted_by c.args.marks.now)) c.loop-v.v c.loop-v.invariant.wrote (rw c.sign_of.ensures at c.byte.ensures.wrote);
+  wrote = written_more (sign_at (lifted_by c.args.marks.now)) c.loop-mark.mark-index c.loop-mark.invariant.wrote (rw c.sign_of.ensures at c.byte.ensures.wrote);
 }
