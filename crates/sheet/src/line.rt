@@ -7,9 +7,8 @@ ghost use Rattle.sheet.specs.Parted.{Parted};
 ghost use Rattle.sheet.specs.Line.{two_digits, four_digits, sign, lifted_by, signs, name_of};
 ghost use Rattle.sheet.specs.Line.{round_part, retain_part, marks_part, redone_part, line_of, refused_line};
 
-// A round's line: whom it retains, nobody where none is left to retain, the vertices that it lifted, by the marks of all (2), and how many
-// rows it redid.
-// Answers the place behind the line.
+// A round's line: whom it retains, nobody where none is left to retain, the vertices that it lifted (mark 2), and how many rows it redid; the
+// place behind it.
 pub fn put_line(
     out: &mut [u8],
     at: usize,

@@ -1,5 +1,6 @@
 -- The choice of a house: the loop that finds it, and that the net yields of a right record give the defined one. Assumes nothing.
 use Rattle.std.proofs.Common.{Some, None, true}
+use Rattle.std.proofs.lemmas.Int.{ints}
 use mathlib.Core.Path.{◌≡◌, refl, sym, ap, ◌∙◌, ap₂, subst}
 use mathlib.Core.Logic.{⊎_elim}
 use mathlib.Core.Bool.{Bool, false, not, cond}
@@ -7,10 +8,10 @@ use mathlib.Core.List.{List}
 use Prim.Native.Nat.{ℕ, suc, ◌+◌, ◌-◌, ◌≤◌, ◌<◌}
 use native.Mathlib.Nat.{eq-or-lt_of_le}
 use native.Mathlib.Omega.{arith}
-use lib.IntN.{ℤ, pos, negsuc}
-use lib.Signed.{le_z, lt_z, ◌≤ℤ◌, ◌<ℤ◌, le_z_yes, lt_z_yes, lt_z_no, ≤ℤ_refl, <ℤ-≤ℤ_trans, <ℤ_irrefl, clash_ℤ}
+use lib.IntN.{ℤ}
+use lib.Signed.{le_z, lt_z, ◌≤ℤ◌, ◌<ℤ◌, le_z_yes, lt_z_yes, ≤ℤ_refl, <ℤ-≤ℤ_trans, <ℤ_irrefl, clash_ℤ}
 use lib.ListN.{get_or}
-use lib.Dec.{T, eqb, le→leb, ltb→lt, lt→ltb, not_T}
+use lib.Dec.{T, eqb, lt→ltb, not_T}
 use borrow.Author.Count.{below_more}
 use Rattle.finite.specs.Best.{best_in, choice_in}
 use Rattle.finite.proofs.Tests.{and_i, and_l, and_r, nand, not-not, split, same, true_of, false_of}
@@ -35,13 +36,10 @@ use Rattle.turns.specs.Turns.{houses_by}
 -- ---- the order of signed numbers
 
 <ℤ-≤ℤ : {a b : ℤ} → a <ℤ b → a ≤ℤ b
-<ℤ-≤ℤ {a = pos a} {b = pos b} h = le_z_yes (le→leb a b (omega (arith, ltb→lt a b h.lt)))
-<ℤ-≤ℤ {a = pos a} {b = negsuc b} h = absurd h.lt
-<ℤ-≤ℤ {a = negsuc a} {b = pos b} h = le_z_yes tt
-<ℤ-≤ℤ {a = negsuc a} {b = negsuc b} h = le_z_yes (le→leb b a (omega (arith, ltb→lt b a h.lt)))
+<ℤ-≤ℤ h = omega (arith, ints)
 
 ≤ℤ-<ℤ-trans : {a b c : ℤ} → a ≤ℤ b → b <ℤ c → a <ℤ c
-≤ℤ-<ℤ-trans {a} {b} {c} h k = split (lt_z a c) lt_z_yes (λ t. clash_ℤ (<ℤ-≤ℤ_trans k (lt_z_no t)) h)
+≤ℤ-<ℤ-trans h k = omega (arith, ints)
 
 -- ---- a vertex as a house sees it: with its yield, or, of another house, not at all
 
