@@ -24,12 +24,12 @@ use Rattle.lines.proofs.Lists.{list-long}
 
 -- a list that ended, with what it came to
 pub ended_at : {A : Type 0} (k : A) (s : Option ℕ) (e : A) (c : ℕ) → ended k s ≡ Some (e, c) → (s ≡ Some c) × (e ≡ k)
-ended_at k None e c q = absurd (let z : ◌≡◌ {A = ℕ} 0 1 = cc in omega arith)
+ended_at k None e c q = absurd cc
 ended_at k (Some d) e c q = let parts = some_pair_parts k e d c q in (ap Some parts.1, sym parts.0)
 
 pub ended_departs : {A : Type 0} (k : A) (s : Option ℕ) → ended k s ≡ None → s ≡ None
 ended_departs k None q = refl
-ended_departs k (Some d) q = absurd (let z : ◌≡◌ {A = ℕ} 0 1 = cc in omega arith)
+ended_departs k (Some d) q = absurd cc
 
 -- a line with a list
 module _ {A : Type 0} (number : ℕ) (form : Form) (k : A) (r : Numbers) where
@@ -44,7 +44,7 @@ module _ {A : Type 0} (number : ℕ) (form : Form) (k : A) (r : Numbers) where
 -- a line with one number, which its form keeps
 module _ (number : ℕ) (form : ℕ → Form) (keeps : (v : ℕ) → number_of_form (form v) ≡ Some v) where
   pub form_kept : (m : Option (ℕ × ℕ)) (l : Line) (v c : ℕ) → kept_form number form m ≡ Some ((l, v), c) → (m ≡ Some (v, c)) × (l.number ≡ number) × (number_of_form l.form ≡ Some v)
-  form_kept None l v c q = absurd (let z : ◌≡◌ {A = ℕ} 0 1 = cc in omega arith)
+  form_kept None l v c q = absurd cc
   form_kept (Some (w, d)) l v c q =
       let parts = some_pair_parts (kept number (form w) w) (l, v) d c q in
       let value : w ≡ v = ap (λ (x : Line × ℕ). x.1) parts.0 in
@@ -90,7 +90,7 @@ unfolding rider_at
 rider_parts t v p c e = opening (form_at t p rider_head rider_with) refl e
   where
     closing : (x first : ℕ) → form_at t p rider_head rider_with ≡ Some (x, first) → x ≡ v → (s : Option ℕ) → (list_at t first).next ≡ s → on_next s (λ last. skip_at t last rider_tail) None ≡ Some c → RiderParts t v p c
-    closing x first h w None k q = absurd (let z : ◌≡◌ {A = ℕ} 0 1 = cc in omega arith)
+    closing x first h w None k q = absurd cc
     closing x first h w (Some last) k q =
         record {
           first = first;
@@ -104,11 +104,11 @@ rider_parts t v p c e = opening (form_at t p rider_head rider_with) refl e
     same : (x first : ℕ) → form_at t p rider_head rider_with ≡ Some (x, first) → (b : Bool) → eqb x v ≡ b
         → (cond b (closed t rider_tail (list_at t first)) (none None)).next ≡ Some c → RiderParts t v p c
     same x first h true k q = closing x first h (eqb-true x v k) (list_at t first).next refl q
-    same x first h false k q = absurd (let z : ◌≡◌ {A = ℕ} 0 1 = cc in omega arith)
+    same x first h false k q = absurd cc
 
     opening : (m : Option (ℕ × ℕ)) → form_at t p rider_head rider_with ≡ m
         → (on_number m (λ x first. cond (eqb x v) (closed t rider_tail (list_at t first)) (none None)) (none None)).next ≡ Some c → RiderParts t v p c
-    opening None h q = absurd (let z : ◌≡◌ {A = ℕ} 0 1 = cc in omega arith)
+    opening None h q = absurd cc
     opening (Some (x, first)) h q = same x first h (eqb x v) refl q
 
 -- it takes two bytes or more for each number, within the text
@@ -136,10 +136,10 @@ retained_parts t p c e = opening (skip_at t p retained_head) refl e
   where
     closing : (first : ℕ) → skip_at t p retained_head ≡ Some first → (b : Bool) (s : Option ℕ) → ascending (list_at t first).values ≡ b → (list_at t first).next ≡ s
         → on_next (cond b s None) (λ last. skip_at t last line_tail) None ≡ Some c → RetainedParts t p c
-    closing first h false s j k q = absurd (let z : ◌≡◌ {A = ℕ} 0 1 = cc in omega arith)
-    closing first h true None j k q = absurd (let z : ◌≡◌ {A = ℕ} 0 1 = cc in omega arith)
+    closing first h false s j k q = absurd cc
+    closing first h true None j k q = absurd cc
     closing first h true (Some last) j k q = record { first = first; last = last; opened = h; list = k; sorted = j; shut = q; values = rw h }
 
     opening : (s : Option ℕ) → skip_at t p retained_head ≡ s → (on_next s (λ first. closed t line_tail (ordered (list_at t first))) (none None)).next ≡ Some c → RetainedParts t p c
-    opening None h q = absurd (let z : ◌≡◌ {A = ℕ} 0 1 = cc in omega arith)
+    opening None h q = absurd cc
     opening (Some first) h q = closing first h (ascending (list_at t first).values) (list_at t first).next refl refl q

@@ -90,7 +90,7 @@ pub list-long : (t : List ℕ) (p c : ℕ) → (list_at t p).next ≡ Some c →
 list-long t p c =
     list_ind t (λ p r. r.next ≡ Some c → p + 2 * length r.values ≤ c)
     (λ p e. let z : p ≡ c = cc in omega arith)
-    (λ p e. absurd (let z : ◌≡◌ {A = ℕ} 0 1 = cc in omega arith))
+    (λ p e. absurd cc)
     (λ p v d r s n ih e. omega (arith, ih e, number-next t (p + 1) v d n))
     p
 
@@ -112,19 +112,19 @@ space_test t p =
 
 -- a space that was taken
 pub space-taken : (t : List ℕ) (p q : ℕ) (r : Option ⊤) → is_some r ≡ true → option_map (λ _. q) r ≡ skip_at t p (32 ∷ []) → (get_or t p 0 ≡ 32) × (q ≡ p + 1)
-space-taken t p q None s e = absurd (let z : ◌≡◌ {A = ℕ} 0 1 = cc in omega arith)
+space-taken t p q None s e = absurd cc
 space-taken t p q (Some u) s e = go (eqb (get_or t p 0) 32) refl (e ∙ space_test t p)
   where
     go : (b : Bool) → eqb (get_or t p 0) 32 ≡ b → Some q ≡ cond b (Some (p + 1)) None → (get_or t p 0 ≡ 32) × (q ≡ p + 1)
     go true k e = let z : q ≡ p + 1 = cc in (eqb-true (get_or t p 0) 32 k, z)
-    go false k e = absurd (let z : ◌≡◌ {A = ℕ} 0 1 = cc in omega arith)
+    go false k e = absurd cc
 
 -- and where none stands
 pub space-none : (t : List ℕ) (p q : ℕ) (r : Option ⊤) → is_some r ≡ false → option_map (λ _. q) r ≡ skip_at t p (32 ∷ []) → get_or t p 0 ≡ 32 → ⊥
-space-none t p q (Some u) s e h = absurd (let z : ◌≡◌ {A = ℕ} 0 1 = cc in omega arith)
+space-none t p q (Some u) s e h = absurd cc
 space-none t p q None s e h =
     let off : None ≡ Some (p + 1) = e ∙ space_test t p ∙ rw (eq-eqb (get_or t p 0) 32 h) in
-    absurd (let z : ◌≡◌ {A = ℕ} 0 1 = cc in omega arith)
+    absurd cc
 
 -- ---- the loop over neighbors: the list from `at` on is read up to place p, and count links are there
 

@@ -6,7 +6,7 @@ ghost use Rattle.lines.specs.List.{list_at, listed_of, retained_of, anchor};
 
 use reader::Reader;
 
-// Stores the value where there is room for it.
+// Stores the value where there is room for it, by its index: what a `get_mut` wrote has no name that a proof may cite.
 pub fn store<T: Drop>(values: &mut [T], place: usize, value: T)
     ensures { values.new ≡ set values.old place value }
 {

@@ -71,13 +71,13 @@ digit_is t p d e = go (ltb (digit_at t p) 10) refl e
   where
     go : (b : Bool) → ltb (digit_at t p) 10 ≡ b → cond b (Some (digit_at t p)) None ≡ Some d → (digit_at t p ≡ d) × (d < 10)
     go true k e = let z : digit_at t p ≡ d = cc in (z, omega (arith, ltb-true (digit_at t p) 10 k))
-    go false k e = absurd (let z : ◌≡◌ {A = ℕ} 0 1 = cc in omega arith)
+    go false k e = absurd cc
 
 pub digit-none : (t : List ℕ) (p : ℕ) → digit_found t p ≡ None → 10 ≤ digit_at t p
 digit-none t p e = go (ltb (digit_at t p) 10) refl e
   where
     go : (b : Bool) → ltb (digit_at t p) 10 ≡ b → cond b (Some (digit_at t p)) None ≡ None → 10 ≤ digit_at t p
-    go true k e = absurd (let z : ◌≡◌ {A = ℕ} 0 1 = cc in omega arith)
+    go true k e = absurd cc
     go false k e = ltb-false (digit_at t p) 10 k
 
 -- ---- the loop: the digits from place `at` up to p make v
@@ -136,7 +136,7 @@ module _ (t : List ℕ) (at p v : ℕ) (r : Scanning t at p v) where
 -- ---- what a number that was read is
 
 -- its digits are unpadded, make it, and end at the place behind it
-pub number_digits : (t : List ℕ) (p v : ℕ) (c : ℕ) → number_at t p ≡ Some (v, c) → let ds = digits (drop p t) in (unpadded ds ≡ true) × (value 0 ds ≡ v) × (v ≤ 65535) × (p + length ds ≡ c)
+pub number_digits : (t : List ℕ) (p v c : ℕ) → number_at t p ≡ Some (v, c) → let ds = digits (drop p t) in (unpadded ds ≡ true) × (value 0 ds ≡ v) × (v ≤ 65535) × (p + length ds ≡ c)
 unfolding number_of
 number_digits t p v c e = go (unpadded ds) (leb (value 0 ds) 65535) refl refl e
   where
@@ -145,20 +145,20 @@ number_digits t p v c e = go (unpadded ds) (leb (value 0 ds) 65535) refl refl e
 
     go : (x y : Bool) → unpadded ds ≡ x → leb (value 0 ds) 65535 ≡ y → cond {A = Option (ℕ × ℕ)} (x && y) (Some (value 0 ds, p + length ds)) None ≡ Some (v, c)
         → (unpadded ds ≡ true) × (value 0 ds ≡ v) × (v ≤ 65535) × (p + length ds ≡ c)
-    go false y h k e = absurd (let z : ◌≡◌ {A = ℕ} 0 1 = cc in omega arith)
-    go true false h k e = absurd (let z : ◌≡◌ {A = ℕ} 0 1 = cc in omega arith)
+    go false y h k e = absurd cc
+    go true false h k e = absurd cc
     go true true h k e =
         let parts = some_pair_parts (value 0 ds) v (p + length ds) c e in
         (h, parts.0, omega (arith, leb-true (value 0 ds) 65535 k, parts.0), parts.1)
 
 -- it is at most 65,535
-pub number_small : (t : List ℕ) (p v : ℕ) (c : ℕ) → number_at t p ≡ Some (v, c) → v ≤ 65535
+pub number_small : (t : List ℕ) (p v c : ℕ) → number_at t p ≡ Some (v, c) → v ≤ 65535
 number_small t p v c e = (number_digits t p v c e).2
 
 -- it ends behind its start
-pub number-next : (t : List ℕ) (p v : ℕ) (c : ℕ) → number_at t p ≡ Some (v, c) → p < c
+pub number-next : (t : List ℕ) (p v c : ℕ) → number_at t p ≡ Some (v, c) → p < c
 number-next t p v c e = go (digits (drop p t)) (number_digits t p v c e).0 (number_digits t p v c e).3
   where
     go : (ds : List ℕ) → unpadded ds ≡ true → p + length ds ≡ c → p < c
-    go [] h q = absurd (let z : ◌≡◌ {A = ℕ} 0 1 = cc in omega arith)
+    go [] h q = absurd cc
     go (d ∷ ds) h q = omega arith

@@ -34,7 +34,7 @@ Small l = (w : ℕ) → In w l → w ≤ 65535
 -- ---- each line that is read is spelled
 
 -- a number that a form has is at most 65,535
-form_small : (t : List ℕ) (p : ℕ) (head tail : List ℕ) (v : ℕ) (c : ℕ) → form_at t p head tail ≡ Some (v, c) → v ≤ 65535
+form_small : (t : List ℕ) (p : ℕ) (head tail : List ℕ) (v c : ℕ) → form_at t p head tail ≡ Some (v, c) → v ≤ 65535
 form_small t p head tail v c e = let f = form_parts t p head tail v c e in number_small t f.first v f.last f.number
 
 -- three parts and five parts with a rest behind them
@@ -45,21 +45,21 @@ pub regroup_five : (a b c d e rest : List ℕ) → a ++ (b ++ (c ++ (d ++ (e ++ 
 regroup_five a b c d e rest = simp append_assoc
 
 -- (riders n)
-pub riders_text : (t : List ℕ) (p n : ℕ) (c : ℕ) → riders_at t p ≡ Some (n, c) → (drop p t ≡ riders_line n ++ drop c t) × (n ≤ 65535)
+pub riders_text : (t : List ℕ) (p n c : ℕ) → riders_at t p ≡ Some (n, c) → (drop p t ≡ riders_line n ++ drop c t) × (n ≤ 65535)
 unfolding riders_line
 riders_text t p n c e =
     let head = bytes "(riders " in
     (form_text t p head line_tail n c e ∙ regroup_three head (decimal n) line_tail (drop c t), form_small t p head line_tail n c e)
 
 -- (rounds r)
-pub rounds_text : (t : List ℕ) (p r : ℕ) (c : ℕ) → rounds_at t p ≡ Some (r, c) → (drop p t ≡ rounds_line r ++ drop c t) × (r ≤ 65535)
+pub rounds_text : (t : List ℕ) (p r c : ℕ) → rounds_at t p ≡ Some (r, c) → (drop p t ≡ rounds_line r ++ drop c t) × (r ≤ 65535)
 unfolding rounds_line
 rounds_text t p r c e =
     let head = bytes "(rounds " in
     (form_text t p head line_tail r c e ∙ regroup_three head (decimal r) line_tail (drop c t), form_small t p head line_tail r c e)
 
 -- (rider v (with ..))
-pub rider_text : (t : List ℕ) (v p : ℕ) (c : ℕ) → (rider_at t v p).next ≡ Some c → (drop p t ≡ rider_line v (rider_at t v p).values ++ drop c t) × Small (rider_at t v p).values
+pub rider_text : (t : List ℕ) (v p c : ℕ) → (rider_at t v p).next ≡ Some c → (drop p t ≡ rider_line v (rider_at t v p).values ++ drop c t) × Small (rider_at t v p).values
 unfolding rider_line
 rider_text t v p c e =
     let r = rider_parts t v p c e in
@@ -70,7 +70,7 @@ rider_text t v p c e =
     )
 
 -- (retained ..), ascending
-pub retained_text : (t : List ℕ) (p : ℕ) (c : ℕ) → (retained_at t p).next ≡ Some c
+pub retained_text : (t : List ℕ) (p c : ℕ) → (retained_at t p).next ≡ Some c
     → (drop p t ≡ retained_line (retained_at t p).values ++ drop c t) × Small (retained_at t p).values × T (ascending (retained_at t p).values)
 unfolding retained_line
 retained_text t p c e =
@@ -88,7 +88,7 @@ pub record RidersText (m v : ℕ) (t : List ℕ) (p : ℕ) (ls : List (List ℕ)
   pub lines : length ls ≡ m
   pub small : Small (flatten ls)
 
-pub rider_lines_text : (m v : ℕ) (t : List ℕ) (p : ℕ) (c : ℕ) → (rider_lines_from m v t p).next ≡ Some c → RidersText m v t p (rider_lines_from m v t p).lists c
+pub rider_lines_text : (m v : ℕ) (t : List ℕ) (p c : ℕ) → (rider_lines_from m v t p).next ≡ Some c → RidersText m v t p (rider_lines_from m v t p).lists c
 unfolding rider_lines_from rider_lines flatten
 rider_lines_text zero v t p c e = let z : p ≡ c = cc in record { text = ap (λ (q : ℕ). drop q t) z; lines = refl; small = λ w i. absurd i }
 rider_lines_text (suc m) v t p c e = go (rider_at t v p).next refl (λ d k. rider_lines_text m (v + 1) t d c k) e
@@ -96,7 +96,7 @@ rider_lines_text (suc m) v t p c e = go (rider_at t v p).next refl (λ d k. ride
     go : (s : Option ℕ) → (rider_at t v p).next ≡ s → ((d : ℕ) → (rider_lines_from m (v + 1) t d).next ≡ Some c → RidersText m (v + 1) t d (rider_lines_from m (v + 1) t d).lists c)
         → (on_next s (λ q. more_lists (rider_at t v p).values (rider_lines_from m (v + 1) t q)) (record { lists = (rider_at t v p).values ∷ []; next = None })).next ≡ Some c
         → RidersText (suc m) v t p (on_next s (λ q. more_lists (rider_at t v p).values (rider_lines_from m (v + 1) t q)) (record { lists = (rider_at t v p).values ∷ []; next = None })).lists c
-    go None k ih e = absurd (let z : ◌≡◌ {A = ℕ} 0 1 = cc in omega arith)
+    go None k ih e = absurd cc
     go (Some d) k ih e =
         let vs = (rider_at t v p).values in
         let ls = (rider_lines_from m (v + 1) t d).lists in
@@ -124,7 +124,7 @@ pub record Spells (c : Content) (t : List ℕ) (s : Summary) : Type 0 where
   pub summary : s ≡ summary_of c
 
 -- what was read is the content of the text
-content_read : (t : List ℕ) (n : ℕ) (first rest : ℕ) (s : Summary) → riders_at t 0 ≡ Some (n, first) → (rider_lines_at n t first).next ≡ Some rest
+content_read : (t : List ℕ) (n first rest : ℕ) (s : Summary) → riders_at t 0 ≡ Some (n, first) → (rider_lines_at n t first).next ≡ Some rest
     → record { lists = (rider_lines_at n t first).lists; retained = (retained_at t rest).values; rounds = s.rounds } ≡ content_of t s
 content_read t n first rest s h k =
     let lines = riders-read t n first h in

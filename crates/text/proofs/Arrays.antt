@@ -141,13 +141,13 @@ beyond-none n [] h w i = absurd i
 beyond-none n (v ∷ vs) h w i = go (leb n v) refl h i (beyond-none n vs)
   where
     go : (b : Bool) → leb n v ≡ b → cond b (Some v) (first_beyond n vs) ≡ None → In w (v ∷ vs) → (first_beyond n vs ≡ None → (x : ℕ) → In x vs → x < n) → w < n
-    go true e h i ih = absurd (let z : ◌≡◌ {A = ℕ} 0 1 = cc in omega arith)
+    go true e h i ih = absurd cc
     go false e h (inl q) ih = omega (arith, leb-false n v e)
     go false e h (inr m) ih = ih h w m
 
 -- where there is one, it is a number of n or more in the list
 pub beyond-some : (n : ℕ) (vs : List ℕ) (b : ℕ) → first_beyond n vs ≡ Some b → In b vs × (n ≤ b)
-beyond-some n [] b h = absurd (let z : ◌≡◌ {A = ℕ} 0 1 = cc in omega arith)
+beyond-some n [] b h = absurd cc
 beyond-some n (v ∷ vs) b h = go (leb n v) refl h (beyond-some n vs b)
   where
     go : (c : Bool) → leb n v ≡ c → cond c (Some v) (first_beyond n vs) ≡ Some b → (first_beyond n vs ≡ Some b → In b vs × (n ≤ b)) → In b (v ∷ vs) × (n ≤ b)

@@ -82,7 +82,7 @@ record Departed (m v : ℕ) (t : List ℕ) (p : ℕ) (all : List (List ℕ)) : T
 
 departed : (m v : ℕ) (t : List ℕ) (p : ℕ) → (rider_lines_from m v t p).next ≡ None → Departed m v t p (rider_lines_from m v t p).lists
 unfolding rider_lines_from rider_lines flatten
-departed zero v t p e = absurd (let z : ◌≡◌ {A = ℕ} 0 1 = cc in omega arith)
+departed zero v t p e = absurd cc
 departed (suc m) v t p e = go (rider_at t v p).next refl (λ d k. departed m (v + 1) t d k) e
   where
     go : (s : Option ℕ) → (rider_at t v p).next ≡ s → ((d : ℕ) → (rider_lines_from m (v + 1) t d).next ≡ None → Departed m (v + 1) t d (rider_lines_from m (v + 1) t d).lists)
@@ -140,7 +140,7 @@ begins_behind t c w m h rest e =
       text = e ∙ sym (ap (λ (l : List ℕ). l ++ rest) (behind c m) ∙ append_assoc a (b ++ d) rest ∙ ap (λ (l : List ℕ). a ++ l) (append_assoc b d rest));
     }
 
-module _ (t : List ℕ) (n : ℕ) (first : ℕ) (h : riders_at t 0 ≡ Some (n, first)) where
+module _ (t : List ℕ) (n first : ℕ) (h : riders_at t 0 ≡ Some (n, first)) where
   begins-riders : (rider_lines_at n t first).next ≡ None → Begins t (length (rider_lines_at n t first).lists)
   begins-riders q =
       let opened = riders_text t 0 n first h in
@@ -195,7 +195,7 @@ module _ (t : List ℕ) (n : ℕ) (first : ℕ) (h : riders_at t 0 ≡ Some (n, 
           (begins_behind t (record { lists = ls; retained = vs; rounds = 0 }) (record { riders = small.0; links = small.1; retained = kept.1; rounds = omega arith; ascending = kept.2 }) 1 (omega arith) (drop last t)
           (opened ∙ ap (λ (r : List ℕ). riders_line (length ls) ++ (flatten (rider_lines 0 ls) ++ r)) (kept.0 ∙ ap (λ (r : List ℕ). r ++ drop last t) (sym (append-nil (retained_line vs))))))
 
-      begins-rounds : (rounds : ℕ) (end : ℕ) → rounds_at t last ≡ Some (rounds, end) → Begins t (suc (n + 2))
+      begins-rounds : (rounds end : ℕ) → rounds_at t last ≡ Some (rounds, end) → Begins t (suc (n + 2))
       unfolding flatten
       begins-rounds rounds end q =
           let kept = retained_text t rest last l in
@@ -221,7 +221,7 @@ departs_begins t k e = go (outcome t)
     go (no_retained n first rest h q l r) = at (suc (n + 0)) (r ∙ ap Err (omega arith)) (begins-lines t n first h rest q)
     go (no_rounds n first rest last h q l x r) = at (suc (n + 1)) (r ∙ ap Err (omega arith)) (begins-retained t n first h rest q last l)
     go (extra n first rest last rounds end h q l x y r) = at (suc (n + 2)) (r ∙ ap Err (omega arith)) (begins-rounds t n first h rest q last l rounds end x)
-    go (whole n first rest last rounds end h q l x y r) = absurd (let z : ◌≡◌ {A = ℕ} 0 1 = cc in omega arith)
+    go (whole n first rest last rounds end h q l x y r) = absurd cc
 
 -- ---- and with no more
 
@@ -301,7 +301,7 @@ module _ (t : List ℕ) (c : Content) (w : WellFormed c) where
     past-riders i b r = go (outcome t)
       where
         go : Outcome t (reading_of t) → suc i < k
-        go (no_riders h q) = absurd (let z : ◌≡◌ {A = ℕ} 0 1 = cc r.opened in omega arith)
+        go (no_riders h q) = absurd (cc r.opened)
         go (no_rider m first h l q) =
             let z : k ≡ 1 + length (rider_lines_at m t first).lists = cc in
             let s : m ≡ n = (some_pair_parts m n first r.first (sym h ∙ r.opened)).0 in
@@ -311,32 +311,32 @@ module _ (t : List ℕ) (c : Content) (w : WellFormed c) where
         go (no_retained m first lines h l x q) = let s : m ≡ n = (some_pair_parts m n first r.first (sym h ∙ r.opened)).0 in let z : k ≡ m + 2 = cc in omega arith
         go (no_rounds m first lines last h l x y q) = let s : m ≡ n = (some_pair_parts m n first r.first (sym h ∙ r.opened)).0 in let z : k ≡ m + 3 = cc in omega arith
         go (extra m first lines last rounds end h l x y o q) = let s : m ≡ n = (some_pair_parts m n first r.first (sym h ∙ r.opened)).0 in let z : k ≡ m + 4 = cc in omega arith
-        go (whole m first lines last rounds end h l x y o q) = absurd (let z : ◌≡◌ {A = ℕ} 0 1 = cc in omega arith)
+        go (whole m first lines last rounds end h l x y o q) = absurd cc
 
     past-retained : (i : ℕ) → i ≤ 1 → (rest : List ℕ) → ReadsRetained i rest → suc (n + suc i) < k
     past-retained i b rest r = go (outcome t)
       where
         -- the same places
-        lines_same : (m : ℕ) (first : ℕ) → riders_at t 0 ≡ Some (m, first) → (rider_lines_at m t first).next ≡ Some r.lines
+        lines_same : (m first : ℕ) → riders_at t 0 ≡ Some (m, first) → (rider_lines_at m t first).next ≡ Some r.lines
         lines_same m first h =
             let s : m ≡ n = (some_pair_parts m n first r.first (sym h ∙ r.opened)).0 in
             let f : first ≡ r.first = (some_pair_parts m n first r.first (sym h ∙ r.opened)).1 in
             ap (λ (j : ℕ). (rider_lines_at j t first).next) s ∙ ap (λ (x : ℕ). (rider_lines_at n t x).next) f ∙ r.riders
 
-        retained-same : (m : ℕ) (first lines : ℕ) → riders_at t 0 ≡ Some (m, first) → (rider_lines_at m t first).next ≡ Some lines → (retained_at t lines).next ≡ Some r.last
+        retained-same : (m first lines : ℕ) → riders_at t 0 ≡ Some (m, first) → (rider_lines_at m t first).next ≡ Some lines → (retained_at t lines).next ≡ Some r.last
         retained-same m first lines h l = let f : lines ≡ r.lines = cc (lines_same m first h) in ap (λ (x : ℕ). (retained_at t x).next) f ∙ r.retained
 
         go : Outcome t (reading_of t) → suc (n + suc i) < k
-        go (no_riders h q) = absurd (let z : ◌≡◌ {A = ℕ} 0 1 = cc r.opened in omega arith)
-        go (no_rider m first h l q) = absurd (let z : ◌≡◌ {A = ℕ} 0 1 = cc (lines_same m first h) in omega arith)
-        go (no_retained m first lines h l x q) = absurd (let z : ◌≡◌ {A = ℕ} 0 1 = cc (retained-same m first lines h l) in omega arith)
+        go (no_riders h q) = absurd (cc r.opened)
+        go (no_rider m first h l q) = absurd (cc (lines_same m first h))
+        go (no_retained m first lines h l x q) = absurd (cc (retained-same m first lines h l))
         go (no_rounds m first lines last h l x y q) =
             let s : m ≡ n = (some_pair_parts m n first r.first (sym h ∙ r.opened)).0 in
             let z : k ≡ m + 3 = cc in
             let f : last ≡ r.last = cc (retained-same m first lines h l) in
             ⊎_elim (λ u. absurd (reads_rounds i rest r u (ap (λ (x : ℕ). rounds_at t x) (sym f) ∙ y))) (λ u. omega arith) (eq-or-lt_of_le b)
         go (extra m first lines last rounds end h l x y o q) = let s : m ≡ n = (some_pair_parts m n first r.first (sym h ∙ r.opened)).0 in let z : k ≡ m + 4 = cc in omega arith
-        go (whole m first lines last rounds end h l x y o q) = absurd (let z : ◌≡◌ {A = ℕ} 0 1 = cc in omega arith)
+        go (whole m first lines last rounds end h l x y o q) = absurd cc
 
 -- a text that departs at line k begins with less than k lines of any well-formed text
 pub departs_ends : (t : List ℕ) (j k : ℕ) → reading_of t ≡ Err k → Begins t j → j < k

@@ -52,7 +52,7 @@ decimal-value v (d ∷ ds) h k =
 
 -- unpadded digits are the decimal of their value
 unpadded-decimal : (ds : List ℕ) → AllDigits ds → unpadded ds ≡ true → shown ds ≡ decimal (value 0 ds)
-unpadded-decimal [] h u = absurd (let z : ◌≡◌ {A = ℕ} 0 1 = cc in omega arith)
+unpadded-decimal [] h u = absurd cc
 unpadded-decimal (d ∷ []) h u = rw (zero-add d) (sym (decimal_digit d h.0))
 unpadded-decimal (d ∷ e ∷ ds) h u =
     let lead = eqb-false d 0 (not-true (eqb d 0) u) in
@@ -80,7 +80,7 @@ digits_text (b ∷ bs) = go (ltb (digit_of b) 10) refl (digits_text bs)
     go false e ih = (tt, refl)
 
 -- a number
-pub number_text : (t : List ℕ) (p v : ℕ) (c : ℕ) → number_at t p ≡ Some (v, c) → drop p t ≡ decimal v ++ drop c t
+pub number_text : (t : List ℕ) (p v c : ℕ) → number_at t p ≡ Some (v, c) → drop p t ≡ decimal v ++ drop c t
 number_text t p v c e =
     let ds = digits (drop p t) in
     let read = number_digits t p v c e in
@@ -90,12 +90,12 @@ number_text t p v c e =
 begins_text : (xs ys : List ℕ) → begins xs ys ≡ true → ys ≡ xs ++ drop (length xs) ys
 unfolding begins
 begins_text [] ys e = refl
-begins_text (x ∷ xs) [] e = absurd (let z : ◌≡◌ {A = ℕ} 0 1 = cc in omega arith)
+begins_text (x ∷ xs) [] e = absurd cc
 begins_text (x ∷ xs) (y ∷ ys) e = go (eqb y x) refl (λ k. begins_text xs ys k) e
   where
     go : (b : Bool) → eqb y x ≡ b → (begins xs ys ≡ true → ys ≡ xs ++ drop (length xs) ys) → b && begins xs ys ≡ true → y ∷ ys ≡ (x ∷ xs) ++ drop (length (x ∷ xs)) (y ∷ ys)
     go true k ih e = ap (λ (w : ℕ). w ∷ ys) (eqb-true y x k) ∙ ap (λ (l : List ℕ). x ∷ l) (ih e)
-    go false k ih e = absurd (let z : ◌≡◌ {A = ℕ} 0 1 = cc in omega arith)
+    go false k ih e = absurd cc
 
 -- constant bytes
 pub skip_text : (t : List ℕ) (p : ℕ) (bs : List ℕ) (c : ℕ) → skip_at t p bs ≡ Some c → drop p t ≡ bs ++ drop c t
@@ -104,18 +104,18 @@ skip_text t p bs c e =
     begins_text bs (drop p t) found.0 ∙ rw (drop-drop (length bs) p t, found.1)
 
 -- a number between constant bytes
-pub form_text : (t : List ℕ) (p : ℕ) (head tail : List ℕ) (v : ℕ) (c : ℕ) → form_at t p head tail ≡ Some (v, c) → drop p t ≡ head ++ (decimal v ++ (tail ++ drop c t))
+pub form_text : (t : List ℕ) (p : ℕ) (head tail : List ℕ) (v c : ℕ) → form_at t p head tail ≡ Some (v, c) → drop p t ≡ head ++ (decimal v ++ (tail ++ drop c t))
 form_text t p head tail v c e =
     let f = form_parts t p head tail v c e in
     skip_text t p head f.first f.opened ∙ rw (number_text t f.first v f.last f.number, skip_text t f.last tail c f.closed)
 
 -- a list
-pub list_text : (t : List ℕ) (p : ℕ) (c : ℕ) → (list_at t p).next ≡ Some c → drop p t ≡ spelled_list (list_at t p).values ++ drop c t
+pub list_text : (t : List ℕ) (p c : ℕ) → (list_at t p).next ≡ Some c → drop p t ≡ spelled_list (list_at t p).values ++ drop c t
 unfolding spelled_list
 list_text t p c =
     list_ind t (λ p r. r.next ≡ Some c → drop p t ≡ spelled_list r.values ++ drop c t)
     (λ p e. let z : p ≡ c = cc in ap (λ (q : ℕ). drop q t) z)
-    (λ p e. absurd (let z : ◌≡◌ {A = ℕ} 0 1 = cc in omega arith))
+    (λ p e. absurd cc)
     (λ p v d r s n ih e.
     drop-cons t p 0 (space_in t p s)
     ∙ ap (λ (b : ℕ). b ∷ drop (suc p) t) s
@@ -162,7 +162,7 @@ all_snoc (e ∷ ds) d h k = (h.0, all_snoc ds d h.1 k)
 
 -- digits of a number above 0 stay unpadded with one more behind them
 unpadded_snoc : (ds : List ℕ) (d : ℕ) → unpadded ds ≡ true → 0 < value 0 ds → unpadded (ds ++ d ∷ []) ≡ true
-unpadded_snoc [] d u h = absurd (let z : ◌≡◌ {A = ℕ} 0 1 = cc in omega arith)
+unpadded_snoc [] d u h = absurd cc
 unpadded_snoc (e ∷ []) d u h = rw (ne_eqb e 0 (λ z. omega arith))
 unpadded_snoc (e ∷ f ∷ ds) d u h = u
 

@@ -123,7 +123,7 @@ module _ (t : List ℕ) (n at : ℕ) (starts₀ links₀ starts links : List ℕ
 -- ---- the parts read
 
 module _ (t : List ℕ) where
-  pub riders-read : (n : ℕ) (first : ℕ) → riders_at t 0 ≡ Some (n, first) → rider_lines_read t ≡ rider_lines_at n t first
+  pub riders-read : (n first : ℕ) → riders_at t 0 ≡ Some (n, first) → rider_lines_read t ≡ rider_lines_at n t first
   unfolding rider_lines_read
   riders-read n first e = rw e
 
@@ -140,19 +140,19 @@ summed t n first rest rounds = record { riders = n; links = length (flatten (rid
 pub data Outcome (t : List ℕ) (r : Result Summary ℕ) : Type 0 where
   no_riders : riders_at t 0 ≡ None → r ≡ Err 1 → Outcome t r
   no_rider :
-      (n : ℕ) (first : ℕ) → riders_at t 0 ≡ Some (n, first) → (rider_lines_at n t first).next ≡ None
+      (n first : ℕ) → riders_at t 0 ≡ Some (n, first) → (rider_lines_at n t first).next ≡ None
       → r ≡ Err (1 + length (rider_lines_at n t first).lists) → Outcome t r
   no_retained :
-      (n : ℕ) (first rest : ℕ) → riders_at t 0 ≡ Some (n, first) → (rider_lines_at n t first).next ≡ Some rest → (retained_at t rest).next ≡ None
+      (n first rest : ℕ) → riders_at t 0 ≡ Some (n, first) → (rider_lines_at n t first).next ≡ Some rest → (retained_at t rest).next ≡ None
       → r ≡ Err (n + 2) → Outcome t r
   no_rounds :
-      (n : ℕ) (first rest last : ℕ) → riders_at t 0 ≡ Some (n, first) → (rider_lines_at n t first).next ≡ Some rest → (retained_at t rest).next ≡ Some last
+      (n first rest last : ℕ) → riders_at t 0 ≡ Some (n, first) → (rider_lines_at n t first).next ≡ Some rest → (retained_at t rest).next ≡ Some last
       → rounds_at t last ≡ None → r ≡ Err (n + 3) → Outcome t r
   extra :
-      (n : ℕ) (first rest last : ℕ) (rounds : ℕ) (end : ℕ) → riders_at t 0 ≡ Some (n, first) → (rider_lines_at n t first).next ≡ Some rest → (retained_at t rest).next ≡ Some last
+      (n first rest last rounds end : ℕ) → riders_at t 0 ≡ Some (n, first) → (rider_lines_at n t first).next ≡ Some rest → (retained_at t rest).next ≡ Some last
       → rounds_at t last ≡ Some (rounds, end) → (end ≡ length t → ⊥) → r ≡ Err (n + 4) → Outcome t r
   whole :
-      (n : ℕ) (first rest last : ℕ) (rounds : ℕ) (end : ℕ) → riders_at t 0 ≡ Some (n, first) → (rider_lines_at n t first).next ≡ Some rest → (retained_at t rest).next ≡ Some last
+      (n first rest last rounds end : ℕ) → riders_at t 0 ≡ Some (n, first) → (rider_lines_at n t first).next ≡ Some rest → (retained_at t rest).next ≡ Some last
       → rounds_at t last ≡ Some (rounds, end) → end ≡ length t
       → r ≡ Ok (summed t n first rest rounds) → Outcome t r
 
@@ -160,21 +160,21 @@ pub outcome : (t : List ℕ) → Outcome t (reading_of t)
 unfolding reading_of rest_of
 outcome t = opening (riders_at t 0) refl
   where
-    ending : (n : ℕ) (first rest last : ℕ) (rounds : ℕ) (end : ℕ) → riders_at t 0 ≡ Some (n, first) → (rider_lines_at n t first).next ≡ Some rest → (retained_at t rest).next ≡ Some last
+    ending : (n first rest last rounds end : ℕ) → riders_at t 0 ≡ Some (n, first) → (rider_lines_at n t first).next ≡ Some rest → (retained_at t rest).next ≡ Some last
         → rounds_at t last ≡ Some (rounds, end) → (b : Bool) → eqb end (length t) ≡ b → Outcome t (reading_of t)
     ending n first rest last rounds end h k l q true e = whole n first rest last rounds end h k l q (eqb-true end (length t) e) (rw (h, k, l, q, e))
     ending n first rest last rounds end h k l q false e = extra n first rest last rounds end h k l q (eqb-false end (length t) e) (rw (h, k, l, q, e))
 
-    rounding : (n : ℕ) (first rest last : ℕ) → riders_at t 0 ≡ Some (n, first) → (rider_lines_at n t first).next ≡ Some rest → (retained_at t rest).next ≡ Some last
+    rounding : (n first rest last : ℕ) → riders_at t 0 ≡ Some (n, first) → (rider_lines_at n t first).next ≡ Some rest → (retained_at t rest).next ≡ Some last
         → (m : Option (ℕ × ℕ)) → rounds_at t last ≡ m → Outcome t (reading_of t)
     rounding n first rest last h k l None q = no_rounds n first rest last h k l q (rw (h, k, l, q))
     rounding n first rest last h k l (Some (rounds, end)) q = ending n first rest last rounds end h k l q (eqb end (length t)) refl
 
-    retaining : (n : ℕ) (first rest : ℕ) → riders_at t 0 ≡ Some (n, first) → (rider_lines_at n t first).next ≡ Some rest → (s : Option ℕ) → (retained_at t rest).next ≡ s → Outcome t (reading_of t)
+    retaining : (n first rest : ℕ) → riders_at t 0 ≡ Some (n, first) → (rider_lines_at n t first).next ≡ Some rest → (s : Option ℕ) → (retained_at t rest).next ≡ s → Outcome t (reading_of t)
     retaining n first rest h k None l = no_retained n first rest h k l (rw (h, k, l))
     retaining n first rest h k (Some last) l = rounding n first rest last h k l (rounds_at t last) refl
 
-    riding : (n : ℕ) (first : ℕ) → riders_at t 0 ≡ Some (n, first) → (s : Option ℕ) → (rider_lines_at n t first).next ≡ s → Outcome t (reading_of t)
+    riding : (n first : ℕ) → riders_at t 0 ≡ Some (n, first) → (s : Option ℕ) → (rider_lines_at n t first).next ≡ s → Outcome t (reading_of t)
     riding n first h None k = no_rider n first h k (rw (h, k))
     riding n first h (Some rest) k = retaining n first rest h k (retained_at t rest).next refl
 
@@ -200,11 +200,11 @@ pub whole_parts : (t : List ℕ) (s : Summary) → reading_of t ≡ Ok s → Who
 whole_parts t s e = go (outcome t)
   where
     go : Outcome t (reading_of t) → Whole t s
-    go (no_riders h r) = absurd (let z : ◌≡◌ {A = ℕ} 0 1 = cc in omega arith)
-    go (no_rider n first h k r) = absurd (let z : ◌≡◌ {A = ℕ} 0 1 = cc in omega arith)
-    go (no_retained n first rest h k l r) = absurd (let z : ◌≡◌ {A = ℕ} 0 1 = cc in omega arith)
-    go (no_rounds n first rest last h k l q r) = absurd (let z : ◌≡◌ {A = ℕ} 0 1 = cc in omega arith)
-    go (extra n first rest last rounds end h k l q x r) = absurd (let z : ◌≡◌ {A = ℕ} 0 1 = cc in omega arith)
+    go (no_riders h r) = absurd cc
+    go (no_rider n first h k r) = absurd cc
+    go (no_retained n first rest h k l r) = absurd cc
+    go (no_rounds n first rest last h k l q r) = absurd cc
+    go (extra n first rest last rounds end h k l q x r) = absurd cc
     go (whole n first rest last rounds end h k l q x r) =
         let read : summed t n first rest rounds ≡ s = cc in
         let same : rounds ≡ s.rounds = ap (λ (x : Summary). x.rounds) read in
