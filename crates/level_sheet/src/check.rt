@@ -147,7 +147,8 @@ fn lowest_fault(
 {
     let mut lowest = None;
     for v in 0..starts.len() - 1 {
-        lowest = lower(lowest, fault_at(starts, links, anchored, levels, layers, v), v);
+        let own = fault_at(starts, links, anchored, levels, layers, v);
+        lowest = lower(lowest, own, v);
     }
     lowest
 }

@@ -17,7 +17,7 @@ use Rattle.finite.proofs.Search.{not-any, member_i, member-e, none_any, first-no
 use Rattle.table.specs.Table.{vertices, neighbors, wrong_end, wrong_step, bad_start, beyond, looped, unsorted, unreturned, links_of, check_of, Framed, SoundTable}
 use Rattle.table.specs.Rule.{Refusal}
 use Rattle.table.specs.Guard.{refused, refused_at, refuse}
-use Rattle.std.specs.Prelude.{Ok, Err}
+use Rattle.std.specs.Prelude.{Err}
 use Rattle.table.specs.Guard.{Guard}
 use Rattle.table.specs.Guard.{clear}
 

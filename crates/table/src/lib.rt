@@ -14,6 +14,7 @@ mod rules; // the rules of starts and of one vertex's neighbors
 pub mod size; // edges and the greatest degree
 
 pub use refusal::{Refusal, Rule, refuse};
+use rules::{first_bad_start, first_unreturned, is_beyond, is_looped, is_unsorted};
 pub use size::Size;
 
 // The neighbors of v: the links from place start v up to, not including, start v + 1.
@@ -33,10 +34,13 @@ fn test_links(starts: &[u16], links: &[u16]) -> Result<(), Refusal>
     ensures { result ≡ links_of starts.now links.now }
 {
     let n = starts.len() - 1;
-    refuse(Rule::Beyond, (0..n).find(|v| rules::is_beyond(starts, links, *v)))?;
-    refuse(Rule::Loop, (0..n).find(|v| rules::is_looped(starts, links, *v)))?;
-    refuse(Rule::Unsorted, (0..n).find(|v| rules::is_unsorted(starts, links, *v)))?;
-    refuse(Rule::Unreturned, rules::first_unreturned(starts, links))
+    refuse(Rule::Beyond, (0..n).find(|v| is_beyond(starts, links, *v)))?;
+    refuse(Rule::Loop, (0..n).find(|v| is_looped(starts, links, *v)))?;
+    refuse(
+        Rule::Unsorted,
+        (0..n).find(|v| is_unsorted(starts, links, *v)),
+    )?;
+    refuse(Rule::Unreturned, first_unreturned(starts, links))
 }
 
 // Refusals 1 to 8: the lowest number first, each tested over the whole table.
@@ -52,7 +56,7 @@ pub fn test_table(starts: &[u16], links: &[u16]) -> Result<(), Refusal>
     if 16384 < links.len() {
         return Err(Refusal::new(Rule::ManyLinks, 0));
     }
-    refuse(Rule::Starts, rules::first_bad_start(starts, links))?;
+    refuse(Rule::Starts, first_bad_start(starts, links))?;
     if paired::all_paired(starts, links) {
         return Ok(());
     }

@@ -12,7 +12,11 @@ fn is_bad_start(starts: &[u16], links: &[u16], i: usize) -> bool
     ensures { result ≡ bad_start starts.now links.now i }
 {
     let wrong_end = i + 1 == starts.len() && starts[i] as usize != links.len();
-    let wrong_step = if i == 0 { starts[i] != 0 } else { starts[i] < starts[i - 1] };
+    let wrong_step = if i == 0 {
+        starts[i] != 0
+    } else {
+        starts[i] < starts[i - 1]
+    };
     wrong_end || wrong_step
 }
 

@@ -1,4 +1,4 @@
-use Rattle.std.proofs.Common.{◌≡◌, ◌∙◌, sym, ap}
+use Rattle.std.proofs.Common.{◌∙◌, sym, ap}
 use Rattle.std.specs.Prelude.{Ok}
 use Rattle.std.proofs.lemmas.Result.{err_from_is_err_and}
 use Rattle.table.proofs.Guards.{exit, goes_on, cleared, handed}
@@ -7,9 +7,10 @@ use Rattle.marking.proofs.Marking.{marking-sound}
 use Rattle.collapse.proofs.collapse.Goals as goal
 
 pub returns-in_err-test_marking : goal.returns-in_err-test_marking
-returns-in_err-test_marking c =
-    (exit _ _ _ c.test_marking.ensures c.in_err-test_marking.was (err_from_is_err_and c.from_residual.result c.from_residual.ensures.1),
-    sym (handed _ _ (sym c.test_marking.ensures ∙ c.in_err-test_marking.was)))
+returns-in_err-test_marking c = (
+  exit _ _ _ c.test_marking.ensures c.in_err-test_marking.was (err_from_is_err_and c.from_residual.result c.from_residual.ensures.1),
+  sym (handed _ _ (sym c.test_marking.ensures ∙ c.in_err-test_marking.was)),
+)
 
 pub write_falls-requires : goal.write_falls-requires
 write_falls-requires c =

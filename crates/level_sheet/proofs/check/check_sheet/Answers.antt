@@ -1,9 +1,8 @@
-use Rattle.std.proofs.Common.{◌≡◌, ◌∙◌, sym, ap, refl, subst}
-use Rattle.std.specs.Prelude.{Ok, Err}
+use Rattle.std.proofs.Common.{◌∙◌, sym, ap, refl}
+use Rattle.std.specs.Prelude.{Ok}
 use Rattle.std.proofs.lemmas.Result.{err_from_is_err_and}
 use Rattle.table.proofs.Guards.{exit, goes_on, cleared}
 use Rattle.pool.proofs.Laws.{admitted}
-use Rattle.level_sheet.specs.SheetCheck.{number_in, Tells}
 use Rattle.level_sheet.proofs.Laws.{check_tells}
 use Rattle.level_sheet.proofs.check.check_sheet.Goals as goal
 

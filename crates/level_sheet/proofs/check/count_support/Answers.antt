@@ -22,7 +22,7 @@ loop-u-preserved c =
     record {
       level = counted_more _ part i _ c.stands_at.result (omega arith) c.stands_at.ensures c.loop-u.invariant.level;
       pair = counted_more _ part i _ c.stands_at-in-loop-u.result (omega arith) c.stands_at-in-loop-u.ensures c.loop-u.invariant.pair;
-      before = counted_more _ part i _ c.stands_at-in-loop-u-2.result (omega arith) c.stands_at-in-loop-u-2.ensures c.loop-u.invariant.before
+      before = counted_more _ part i _ c.stands_at-in-loop-u-2.result (omega arith) c.stands_at-in-loop-u-2.ensures c.loop-u.invariant.before;
     }
 
 pub returns : goal.returns
@@ -33,5 +33,5 @@ returns c =
     record {
       level = rw (← c.new-lowest.ensures.level) (rw c.new-lowest.ensures.layer at (counted-all (stands c.new-lowest.result.level.0 c.new-lowest.result.layer.0) part i _ (omega arith) c.loop-u.invariant.level));
       pair = counted-all _ part i _ (omega arith) c.loop-u.invariant.pair;
-      before = rw (← c.new-before.ensures.level) (rw c.new-before.ensures.layer at (counted-all (stands c.new-before.result.level.0 c.new-before.result.layer.0) part i _ (omega arith) c.loop-u.invariant.before))
+      before = rw (← c.new-before.ensures.level) (rw c.new-before.ensures.layer at (counted-all (stands c.new-before.result.level.0 c.new-before.result.layer.0) part i _ (omega arith) c.loop-u.invariant.before));
     }

@@ -7,5 +7,5 @@ abbrev pub invariant-loop-u : goal.invariant-loop-u
 invariant-loop-u l = record {
   level : Counted (stands_at l.anchored l.levels l.layers l.lowest.level.0 l.lowest.layer.0) l.part l.u-index l.support.level;
   pair : Counted (stands_at l.anchored l.levels l.layers l.pair.level.0 l.pair.layer.0) l.part l.u-index l.support.pair;
-  before : Counted (stands_at l.anchored l.levels l.layers l.before.level.0 l.before.layer.0) l.part l.u-index l.support.before
+  before : Counted (stands_at l.anchored l.levels l.layers l.before.level.0 l.before.layer.0) l.part l.u-index l.support.before;
 }

@@ -48,5 +48,5 @@ returns c =
       free = ne_eqb _ _ c.if-is_anchored.false;
       in_level = count-is stands _ _ _ _ _ _ near new.level refl _ totals.level;
       in_pair = count-is stands _ _ _ _ _ _ near new.level new.layer _ totals.pair;
-      in_before = count-is stands _ _ _ _ _ _ near new.level (ap (λ l. l - 1) new.layer) _ totals.before
+      in_before = count-is stands _ _ _ _ _ _ near new.level (ap (λ l. l - 1) new.layer) _ totals.before;
     }))

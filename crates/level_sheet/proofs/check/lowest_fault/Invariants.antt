@@ -5,5 +5,5 @@ use Rattle.level_sheet.proofs.check.lowest_fault.Given as goal
 abbrev pub invariant-loop-v : goal.invariant-loop-v
 invariant-loop-v l = record {
   numbered : IsNumbered l.lowest;
-  low : Lowest (fault_of l.starts l.links l.anchored l.levels l.layers) l.v (number_or_none l.lowest) (place_or_0 l.lowest)
+  low : Lowest (fault_of l.starts l.links l.anchored l.levels l.layers) l.v (number_or_none l.lowest) (place_or_0 l.lowest);
 }

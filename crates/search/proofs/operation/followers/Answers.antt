@@ -1,4 +1,4 @@
-use Rattle.std.proofs.Common.{◌≡◌, ◌∙◌, sym, ap}
+use Rattle.std.proofs.Common.{◌∙◌, sym, ap}
 use Rattle.std.specs.Prelude.{Ok}
 use Rattle.std.proofs.lemmas.Result.{err_from_is_err_and}
 use Rattle.table.proofs.Guards.{exit, goes_on, cleared, handed}
@@ -12,7 +12,7 @@ returns-in_err-test_search c =
     let refused = sym c.test_search.ensures ∙ c.in_err-test_search.was in
     record {
       answer = exit _ _ _ c.test_search.ensures c.in_err-test_search.was (err_from_is_err_and c.from_residual.result c.from_residual.ensures.1);
-      marks = sym (handed _ _ refused)
+      marks = sym (handed _ _ refused);
     }
 
 pub write_marks-requires : goal.write_marks-requires
@@ -25,5 +25,5 @@ returns c =
     let clear = goes_on c.test_search.ensures c.in_ok-test_search.was in
     record {
       answer = ap Ok c.write_marks.ensures.answer ∙ sym (followers-found _ _ _ _ _ _ _ clear);
-      marks = c.write_marks.ensures.marks ∙ sym (cleared _ _ clear)
+      marks = c.write_marks.ensures.marks ∙ sym (cleared _ _ clear);
     }

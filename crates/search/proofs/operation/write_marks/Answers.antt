@@ -11,5 +11,5 @@ pub returns : goal.returns
 returns c =
     record {
       answer = same-answer c.search-found.result _ _ _ _ c.search-found.ensures.lifted c.search-found.ensures.reached c.measure.ensures;
-      marks = copied-front _ c.search-found.new.marks c.requires.marks_len (omega (arith, c.requires.admitted.table.small)) c.search-found.ensures.marks c.copy.ensures
+      marks = copied-front _ c.search-found.new.marks c.requires.marks_len (omega (arith, c.requires.admitted.table.small)) c.search-found.ensures.marks c.copy.ensures;
     }

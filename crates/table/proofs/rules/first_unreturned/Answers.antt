@@ -1,4 +1,4 @@
-use Rattle.std.proofs.Common.{arith, ◌≡◌, sym, ◌∙◌}
+use Rattle.std.proofs.Common.{arith, sym, ◌∙◌}
 use Rattle.finite.proofs.Search.{found_hit, found_none}
 use Rattle.table.proofs.rules.first_unreturned.Goals as goal
 

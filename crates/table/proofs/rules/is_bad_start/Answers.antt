@@ -12,6 +12,6 @@ pub returns-else-wrong_end : goal.returns-else-wrong_end
 unfolding bad_start
 returns-else-wrong_end c =
     elim c.if-i-starts.branch [
-      then-i-starts w ↦ elim c.if-i-eq0.branch [ then-i-eq0 v ↦ grind (arith, nat_tests) | else-i-eq0 v ↦ grind (arith, nat_tests) ]
-    | else-i-starts w ↦ elim c.if-i-eq0.branch [ then-i-eq0 v ↦ grind (arith, nat_tests) | else-i-eq0 v ↦ grind (arith, nat_tests) ]
+      | then-i-starts w ↦ elim c.if-i-eq0.branch [ then-i-eq0 v ↦ grind (arith, nat_tests) | else-i-eq0 v ↦ grind (arith, nat_tests) ]
+      | else-i-starts w ↦ elim c.if-i-eq0.branch [ then-i-eq0 v ↦ grind (arith, nat_tests) | else-i-eq0 v ↦ grind (arith, nat_tests) ]
     ]

@@ -1,4 +1,4 @@
-use Rattle.std.proofs.Common.{arith, ◌≡◌, ◌∙◌, sym, ap, get_or, Bool, not, true, length}
+use Rattle.std.proofs.Common.{arith, ◌≡◌, ◌∙◌, sym, ap, get_or, not, true, length}
 use Rattle.finite.specs.Search.{member}
 use Rattle.finite.proofs.Search.{any_at, any_none}
 use Rattle.table.specs.Table.{neighbors, unreturned}

@@ -1,4 +1,4 @@
-use Rattle.std.proofs.Common.{arith, ◌≡◌, ◌∙◌, ◌≤◌, ◌+◌, ◌*◌, sym, ap, ap₂, length}
+use Rattle.std.proofs.Common.{arith, ◌≡◌, sym, ap, ap₂, length}
 use Rattle.finite.specs.Count.{sum, below}
 use Rattle.finite.specs.Search.{greatest_of}
 use Rattle.finite.proofs.Count.{sum-below-zero, sum-below-more}

@@ -9,5 +9,5 @@ abbrev pub invariant-loop-v : goal.invariant-loop-v
 invariant-loop-v l = record {
   summed : l.degrees ≡ sum (degree_of l.starts l.links) (below l.v);
   greatest : l.max_degree ≡ greatest_of (degree_of l.starts l.links) l.v;
-  bounded : l.degrees ≤ l.v * 1024
+  bounded : l.degrees ≤ l.v * 1024;
 }
