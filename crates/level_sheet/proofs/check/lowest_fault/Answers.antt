@@ -12,5 +12,5 @@ loop-v-preserved c =
     let a = c.args in
     record {
       numbered = c.lower-lowest.ensures.numbered;
-      low = lowest-next (fault_of a.starts.now a.links.now a.anchored.now a.levels.now a.layers.now) c.loop-v.v _ _ _ _ _ c.fault_at.ensures c.loop-v.invariant.low c.lower-lowest.ensures.number c.lower-lowest.ensures.place;
+      low = lowest-next (fault_of a.starts.now a.links.now a.anchored.now a.levels.now a.layers.now) c.loop-v.v _ _ _ _ _ c.fault_at-own.ensures c.loop-v.invariant.low c.lower-lowest.ensures.number c.lower-lowest.ensures.place;
     }
