@@ -184,8 +184,8 @@ impl<'a> Reader<'a> {
         let (mut depth, mut parts, mut is_open) = (0, 0, false);
         while depth > 0 || self.peek() != close {
             let token = self.next()?;
-            depth += ["(", "["].contains(&token) as usize;
-            depth -= [")", "]"].contains(&token) as usize;
+            depth += ["(", "[", "<"].contains(&token) as usize;
+            depth -= [")", "]", ">"].contains(&token) as usize;
             let comma = token == "," && depth == 0;
             parts += (!comma && !is_open) as usize;
             is_open = !comma;
@@ -194,21 +194,28 @@ impl<'a> Reader<'a> {
         Ok(parts)
     }
 
-    /// A function in Rattle, of which `fn` has been read.
-    fn function(&mut self) -> Read<Function<'a>> {
+    /// A function in Rattle, of which `fn` has been read; nothing for one that a trait asks for, which has no body.
+    fn function(&mut self) -> Read<Option<Function<'a>>> {
         let (line, name) = (self.line(), self.word()?);
         if self.peek() == "<" {
             self.parts("<", ">")?;
         }
         let parameters = self.parts("(", ")")?;
-        while !["requires", "ensures", "{"].contains(&self.peek()) {
-            self.next()?;
+        while !["requires", "ensures", "{", ";"].contains(&self.peek()) {
+            if self.peek() == "[" {
+                self.parts("[", "]")?;
+            } else {
+                self.next()?;
+            }
         }
         self.contract()?;
+        if self.take(";") {
+            return Ok(None);
+        }
         let start = self.at;
         let lines = self.block()?;
         let body = self.tokens[start..self.at].iter().map(|token| token.text).collect();
-        Ok(Function { line, name, parameters, lines, body })
+        Ok(Some(Function { line, name, parameters, lines, body }))
     }
 }
 
@@ -226,7 +233,7 @@ pub fn functions<'a>(path: &'a str, source: &'a str) -> Read<Vec<Function<'a>>> 
     let (mut reader, mut functions) = (Reader::new(path, source), vec![]);
     while !reader.is_done() {
         if reader.next()? == "fn" {
-            functions.push(reader.function()?);
+            functions.extend(reader.function()?);
         }
     }
     Ok(functions)
