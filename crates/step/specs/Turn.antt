@@ -6,15 +6,8 @@ use Rattle.anchored.specs.Session.{Row as PlainRow}
 use Rattle.pool.specs.Input.{graph_of}
 use Rattle.records.specs.Record.{Right, plain_of, Stands}
 use Rattle.records.specs.declared.Record.{Record}
-use Rattle.step.specs.declared.Refused.{Refused}
-use Rattle.step.specs.declared.Refused.TheVariants.{NoVertex, Anchored}
 use Rattle.step.specs.declared.Row.{Row}
 use Rattle.step.specs.declared.Stepped.{Stepped}
-
--- 15 for no vertex, 16 for an anchored one
-abbrev pub refusal_number : Refused → ℕ
-refusal_number NoVertex = 15
-refusal_number Anchored = 16
 
 -- the numbers of a request
 abbrev pub row_as : Row → PlainRow

@@ -3,32 +3,15 @@
 
 ghost use Rattle.std.specs.Prelude.{◌≡◌, ◌<◌, get_or};
 ghost use Rattle.table.specs.Table.{vertices};
+ghost use Rattle.table.specs.Rule.{rule_number};
 ghost use Rattle.pool.specs.Input.{graph_of, anchored_by, Admitted};
 ghost use Rattle.stale.specs.Columns.{ColumnsOf};
 ghost use Rattle.records.specs.Record.{Right};
-ghost use Rattle.step.specs.Turn.{refusal_number, accepting, refusing, Turned};
+ghost use Rattle.step.specs.Turn.{accepting, refusing, Turned};
 ghost use Rattle.step.specs.Rows.{rows_of, Redone, stale_by, SameElsewhere};
 
 use records::Record;
-
-// Why a request is refused.
-#[derive(Clone, Copy, Debug, PartialEq, Eq)]
-pub enum Refused {
-    NoVertex,
-    Anchored,
-}
-
-impl Refused {
-    // The status that C is given.
-    pub fn number(self) -> u16
-        ensures { result ≡ refusal_number self }
-    {
-        match self {
-            Refused::NoVertex => 15,
-            Refused::Anchored => 16,
-        }
-    }
-}
+use table::Rule;
 
 // The three numbers of a request, each lent to C as it stands: 0 and two numbers, or a status above 0 and zeros.
 // `accepted` and `refused` below make them.
@@ -61,14 +44,14 @@ impl Stepped {
         }
     }
 
-    // What a refused one leaves: the record as it was, and its status.
-    pub fn refused(kept: Record, status: u16) -> Stepped
-        ensures { result ≡ refusing kept status }
+    // What a refused one leaves: the record as it was; its status is the number of the rule.
+    pub fn refused(kept: Record, rule: Rule) -> Stepped
+        ensures { result ≡ refusing kept (rule_number rule) }
     {
         Stepped {
             kept,
             row: Row {
-                status,
+                status: rule.number(),
                 lifted: 0,
                 redone: 0,
             },
@@ -133,8 +116,8 @@ fn accept(starts: &[u16], links: &[u16], kept: Record, x: usize, position: u16) 
     stale::mark_stale(
         starts,
         links,
-        kept.columns,
-        next.columns,
+        &kept.columns,
+        &next.columns,
         &[0; 1024],
         &mut marks,
     );
@@ -151,10 +134,10 @@ pub fn step(starts: &[u16], links: &[u16], kept: Record, x: usize, position: u16
     ensures { Turned starts.now links.now position x kept result }
 {
     if starts.len() - 1 <= x {
-        return Stepped::refused(kept, Refused::NoVertex.number());
+        return Stepped::refused(kept, Rule::NoVertex);
     }
     if kept.anchored[x] == 1 {
-        return Stepped::refused(kept, Refused::Anchored.number());
+        return Stepped::refused(kept, Rule::Anchored);
     }
     accept(starts, links, kept, x, position)
 }
