@@ -22,9 +22,8 @@ use Rattle.pool.specs.Input.{graph_of, anchored_by, Admitted}
 use Rattle.pool.specs.Arrays.{Holds}
 use Rattle.pool.proofs.Laws.{simple}
 use Rattle.edit.specs.Edit.{Tabled}
-use Rattle.edit.specs.Change.{status_number}
-use Rattle.edit.specs.declared.status.Refused.{Refused}
-use Rattle.edit.specs.declared.status.Refused.TheVariants.{OwnEdge, NoVertex, NoChange, NoSpace}
+use Rattle.table.specs.Rule.{rule_number}
+use Rattle.table.specs.declared.refusal.Rule.{Rule}
 use Rattle.stale.specs.Columns.{ColumnsOf}
 use Rattle.records.specs.Record.{reached_if, row_reached, Right, plain_of, Stands}
 use Rattle.records.specs.declared.Record.{Record}
@@ -38,12 +37,9 @@ use Rattle.events.specs.Renew.{Before, Renews}
 
 -- ---- statuses
 
--- the number of a refusal is above 0
-pub refusal_some : (refused : Refused) → status_number refused ≡ 0 → ⊥
-refusal_some OwnEdge e = absurd (omega arith)
-refusal_some NoVertex e = absurd (omega arith)
-refusal_some NoChange e = absurd (omega arith)
-refusal_some NoSpace e = absurd (omega arith)
+-- the number of a rule is above 0
+pub refusal_some : (rule : Rule) → rule_number rule ≡ 0 → ⊥
+refusal_some rule e = grind arith
 
 -- an edge that may be added or dropped is an accepted event, and anchors nobody
 edge-status : (P : Pool) (adding : Bool) (a b : ℕ) → (event_status P (edge_event adding a b) ≡ edge_status P.graph (edge_event adding a b)) × T (not (anchors (edge_event adding a b)))

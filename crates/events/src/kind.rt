@@ -1,8 +1,8 @@
 // The kinds of events, and their numbers.
-ghost use Rattle.std.specs.Prelude.{◌≡◌};
 ghost use Rattle.events.specs.Kind.{Decodes};
 
 use edit::edge::Change;
+use table::Rule;
 
 // What an event is.
 #[derive(Clone, Copy, Debug, PartialEq, Eq)]
@@ -11,30 +11,17 @@ pub enum Kind {
     Edge(Change),
 }
 
-// A number above 2, which is no kind's.
-#[derive(Clone, Copy, Debug, PartialEq, Eq)]
-pub struct UnknownKind;
-
-impl UnknownKind {
-    // The status that C is given.
-    pub fn number(self) -> u16
-        ensures { result ≡ 10 }
-    {
-        10
-    }
-}
-
 impl TryFrom<u16> for Kind {
-    type Error = UnknownKind;
+    type Error = Rule;
 
     ghost try_from_gives = { Decodes };
 
-    fn try_from(number: u16) -> Result<Self, UnknownKind> {
+    fn try_from(number: u16) -> Result<Self, Rule> {
         match number {
             0 => Ok(Kind::Anchor),
             1 => Ok(Kind::Edge(Change::Add)),
             2 => Ok(Kind::Edge(Change::Drop)),
-            _ => Err(UnknownKind),
+            _ => Err(Rule::Byte),
         }
     }
 }

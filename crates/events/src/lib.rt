@@ -37,8 +37,8 @@ fn mark_rows(
     let mut bound = [0; 1024];
     stale::mark_edge(
         n,
-        kept.columns,
-        next.columns,
+        &kept.columns,
+        &next.columns,
         &kept.bare,
         &next.bare,
         a,
@@ -46,7 +46,7 @@ fn mark_rows(
         &mut bound,
         marks,
     );
-    stale::mark_stale(starts, links, kept.columns, next.columns, &bound, marks);
+    stale::mark_stale(starts, links, &kept.columns, &next.columns, &bound, marks);
 }
 
 // The record for a table in which the edge between a and b is new or gone: the rows that it makes stale are counted afresh and stamped.
@@ -79,8 +79,8 @@ fn change_edge(
     requires right { Right starts.old links.old kept }
     ensures { Turned starts.old links.old position (edge_event (is_adding change) a b) kept starts.new links.new result }
 {
-    if let Err(refused) = edit::status::edge_status(starts, links, change, a, b) {
-        return Stepped::refused(kept, refused.number());
+    if let Err(rule) = edit::status::edge_status(starts, links, change, a, b) {
+        return Stepped::refused(kept, rule);
     }
     edit::edge::edit(starts, links, change, a, b);
     renew(starts, links, kept, a, b, position)
@@ -103,6 +103,6 @@ pub fn turn(
     match Kind::try_from(kind) {
         Ok(Kind::Anchor) => step::step(starts, links, kept, first, position),
         Ok(Kind::Edge(change)) => change_edge(starts, links, kept, change, first, second, position),
-        Err(unknown) => Stepped::refused(kept, unknown.number()),
+        Err(rule) => Stepped::refused(kept, rule),
     }
 }

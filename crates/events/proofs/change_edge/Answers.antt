@@ -8,7 +8,7 @@ use Rattle.events.proofs.change_edge.Goals as goal
 pub returns-in-Err : goal.returns-in-Err
 returns-in-Err c =
     let x = c.args in
-    rw (c.refused.ensures, c.number.ensures) (edge-refused c.requires.tabled c.requires.right x.position (is_adding x.change) x.a x.b _ (sym c.in-Err.ensures) (refusal_some c.in-Err.refused))
+    rw c.refused.ensures (edge-refused c.requires.tabled c.requires.right x.position (is_adding x.change) x.a x.b _ (sym c.in-Err.ensures) (refusal_some c.in-Err.rule))
 
 pub edit-requires-clause-editable : goal.edit-requires-clause-editable
 edit-requires-clause-editable c = edge_editable _ _ c.in_default.ensures

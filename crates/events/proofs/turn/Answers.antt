@@ -11,4 +11,4 @@ returns-in-Ok-Anchor c =
 pub returns-in-Err : goal.returns-in-Err
 returns-in-Err c =
     let x = c.args in
-    rw (c.refused.ensures, c.number.ensures) (kind_turned c.requires.tabled c.requires.right x.position (event_of x.kind x.first x.second) c.in-Err.ensures)
+    rw (c.refused.ensures, c.in-Err.ensures.1) (kind_turned c.requires.tabled c.requires.right x.position (event_of x.kind x.first x.second) c.in-Err.ensures.0)
