@@ -23,10 +23,9 @@ use Rattle.anchored.specs.Events.{Event, Pool, anchors, event_status, event_row,
 use Rattle.anchored.proofs.Events.{turn-none, climbed_stretch, row-none, row-status}
 use Rattle.anchored.proofs.Order.{after-prefix}
 use Rattle.pool.specs.Input.{graph_of, anchored_by}
-use Rattle.search.specs.declared.operation.Searched.TheVariants.{Found}
 use Rattle.edit.specs.Edit.{last_start, starts_of, links_of}
 use Rattle.session.specs.Run.{Lists, size, prefix, event_at, Slices, sized, run_of, pool_of, row_at, ended}
-use Rattle.session.specs.Claim.{upto, graph, set, size_at, redone, shown, climbs, gains, Stays, Fresh, Plainly, Anchors, Edits, Refuses, Anchoring, Claim}
+use Rattle.session.specs.Claim.{found_with, upto, graph, set, size_at, redone, shown, climbs, gains, Stays, Fresh, Plainly, Anchors, Edits, Refuses, Anchoring, Claim}
 use Rattle.session.specs.Runs.{Runs}
 use Rattle.session.proofs.Runs.{prefix-size, prefix-all, runs-prefix, run_passes, run_sound}
 use Rattle.session.proofs.Tables.{Standing, start_starts, start_links, pools_stand}
@@ -98,7 +97,7 @@ module _ (s l given : List ℕ) (events : Lists) (runs : Runs s l given events) 
       layers = sym (in_slices (λ g B. tabulate (layer g B) n));
       components = sym (in_slices (λ g B. tabulate (component g B) n));
       anchored = λ v b t. (yield_anchored stands v b (in_set v t), reached-anchored stands v b (in_set v t));
-      search = λ v b t. search-reached stands v b (in_none v t) ∙ sym (in_slices (λ g B. Found (followers g B v) (get_or (record_at i).reached v 0) (size_at s l given events i)));
+      search = λ v b t. search-reached stands v b (in_none v t) ∙ sym (in_slices (λ g B. found_with (followers g B v) (get_or (record_at i).reached v 0) (size_at s l given events i)));
       yields = λ v b t. yield_free stands v b (in_none v t) ∙ yield_made stands v b
           ∙ sym (in_slices (λ g B. pos (followers g B v) -ℤ pos (get_or (record_at i).levels v 0 - bare_level g v)));
     }
@@ -166,7 +165,7 @@ module _ (s l given : List ℕ) (events : Lists) (runs : Runs s l given events) 
             links = ap (λ R. links_of R.graph) next;
             anchored = event.anchored-set step kind;
             search = search-reached (stands i) x (event.anchor-vertex step kind) (event.anchor-free step kind)
-                ∙ ap (λ lifted. Found lifted (get_or (record_at i).reached x 0) (size_at s l given events i)) (sym (ap (λ r. r.lifted) row-at ∙ event.anchor-lifted step kind));
+                ∙ ap (λ lifted. found_with lifted (get_or (record_at i).reached x 0) (size_at s l given events i)) (sym (ap (λ r. r.lifted) row-at ∙ event.anchor-lifted step kind));
             lifted = ap (λ r. r.lifted) row-at ∙ event.anchor-marked step kind;
             levels = event.anchor-levels step kind;
             stamped = λ v b t. stamps v b ∙ rw (true_of (eqb x v || again v) t);

@@ -11,7 +11,6 @@ use lib.Dec.{T, leb, leb→le, nleb→lt}
 use Rattle.finite.specs.Count.{bit, tabulate, sum, below}
 use Rattle.finite.proofs.Tests.{split, true_of, false_of, neqb}
 use Rattle.finite.proofs.Count.{bit_le, bit-one, length-tabulate, tabulate_reads, tabulate-at, sum_cong, in_below}
-use Rattle.table.specs.Table.{vertices}
 use Rattle.table.specs.Size.{size_of}
 use Rattle.table.specs.Guard.{clear}
 use Rattle.table.proofs.Laws.{sound}
@@ -26,9 +25,9 @@ use Rattle.level_sheet.specs.SheetCheck.{Accepted}
 use Rattle.level_sheet.proofs.Laws.{accepts}
 use Rattle.marking.proofs.Marking.{vertex-within, marking-vertex}
 use Rattle.search.specs.Answers.{followers_of}
-use Rattle.search.specs.declared.operation.Searched.TheVariants.{Found}
 use Rattle.search.proofs.Answers.{search-free, followers-found}
 use Rattle.edit.specs.Edit.{last_start, starts_of, links_of}
+use Rattle.session.specs.Claim.{found_with}
 use Rattle.session.proofs.Tables.{Standing}
 
 module _ {n : ℕ} {P : Pool} (stands : Standing n P) where
@@ -91,7 +90,7 @@ module _ {n : ℕ} {P : Pool} (stands : Standing n P) where
       }
 
   -- the search from a vertex that is not anchored accepts the record
-  search-at : (x : ℕ) → x < n → T (not (A x)) → followers_of starts links bytes levels layers x n ≡ Found (followers G A x) (reached G A x) (size_of starts links)
+  search-at : (x : ℕ) → x < n → T (not (A x)) → followers_of starts links bytes levels layers x n ≡ found_with (followers G A x) (reached G A x) (size_of starts links)
   search-at x b free =
       let same = stands.vertices in
       let table = sound starts links stands.checked in
@@ -99,7 +98,7 @@ module _ {n : ℕ} {P : Pool} (stands : Standing n P) where
       ∙ vertex-within starts links bytes levels layers x (accepts starts links bytes levels layers table sheet) (omega arith) in
       let unanchored = neqb (get_or bytes x 0) 1 (subst (λ B. T (not (B x))) (sym set_is) free) in
       followers-found starts links bytes levels layers x n (search-free starts links bytes levels layers x n marking unanchored)
-      ∙ ap₂ (λ g B. Found (followers g B x) (reached g B x) (size_of starts links)) stands.cut set_is
+      ∙ ap₂ (λ g B. found_with (followers g B x) (reached g B x) (size_of starts links)) stands.cut set_is
 
   -- the yield of an anchored vertex, and of any other
   pub yield_anchored : (v : ℕ) → v < n → T (A v) → get_or (tabulate (net_yield G A) n) v (pos 0) ≡ least
@@ -120,8 +119,8 @@ module _ {n : ℕ} {P : Pool} (stands : Standing n P) where
   reached-free v b t = tabulate-at (reached_count G A) n v b ∙ rw (false_of (A v) t)
 
   -- so the search answers the record's own reached count
-  pub search-reached : (x : ℕ) → x < n → T (not (A x)) → followers_of starts links bytes levels layers x n ≡ Found (followers G A x) (get_or (tabulate (reached_count G A) n) x 0) (size_of starts links)
-  search-reached x b free = search-at x b free ∙ ap (λ k. Found (followers G A x) k (size_of starts links)) (sym (reached-free x b free))
+  pub search-reached : (x : ℕ) → x < n → T (not (A x)) → followers_of starts links bytes levels layers x n ≡ found_with (followers G A x) (get_or (tabulate (reached_count G A) n) x 0) (size_of starts links)
+  search-reached x b free = search-at x b free ∙ ap (λ k. found_with (followers G A x) k (size_of starts links)) (sym (reached-free x b free))
 
   -- the net yield by the record's level
   pub yield_made : (v : ℕ) → v < n → net G A v ≡ pos (followers G A v) -ℤ pos (get_or levels v 0 - bare_level G v)

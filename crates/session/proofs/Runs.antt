@@ -20,7 +20,7 @@ use Rattle.table.proofs.Laws.{went_on, went_past, pass}
 use Rattle.pool.proofs.Lengths.{passed, each}
 use Rattle.edit.specs.Lent.{check_lent}
 use Rattle.session.specs.Run.{Lists, lists, size, matched, prefix, Slices, records, numbers, sized, admit_run}
-use Rattle.session.specs.Runs.{Runs}
+use Rattle.session.specs.Runs.{Runs, Fits}
 
 module _ (s l given : List ℕ) (events : Lists) (fits : Bool) where
   abbrev n : ℕ
@@ -65,18 +65,6 @@ module _ (s l given : List ℕ) (events : Lists) (fits : Bool) where
       (pass 10 high n _ (λ v h. le-ltb 1 (get_or given v 0) (runs.bytes v h)) ∙ rw (le-ltb 4096 m runs.few, true_of fits lent))
 
 -- slices that fit are of their lengths one by one
-pub record Fits (n m : ℕ) (lent : Slices) : Type 0 where
-  pub anchored : length lent.anchored ≡ n
-  pub levels : length lent.levels ≡ n
-  pub layers : length lent.layers ≡ n
-  pub components : length lent.components ≡ n
-  pub yields : length lent.yields ≡ n
-  pub reached : length lent.reached ≡ n
-  pub stamps : length lent.stamps ≡ n
-  pub status : length lent.status ≡ m
-  pub lifted : length lent.lifted ≡ m
-  pub redone : length lent.redone ≡ m
-
 pub sized-fits : {n m : ℕ} {lent : Slices} → T (sized n m lent) → Fits n m lent
 sized-fits {n} {m} {lent} t =
     let record-long = each n (records lent) (and_l (all (eqb n) (records lent)) (all (eqb m) (numbers lent)) t) in

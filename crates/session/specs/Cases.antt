@@ -24,9 +24,9 @@ use Rattle.pool.specs.Input.{admit_of}
 use Rattle.level_sheet.specs.SheetCheck.{sheet_of, check_sheet_of}
 use Rattle.marking.specs.Marking.{vertex_of, marking_of}
 use Rattle.search.specs.Answers.{search_of, followers_of, marks_of}
-use Rattle.search.specs.declared.operation.Searched.TheVariants.{Found}
 use Rattle.edit.specs.Lent.{check_lent}
 use Rattle.session.specs.Run.{Lists, lists, slices, admit_run, run_of, ended}
+use Rattle.session.specs.Claim.{found_with}
 
 -- a table: its starts and its links
 record Table : Type 0 where
@@ -83,7 +83,7 @@ pub cases :
     -- F
     × (rows (table (0 ∷ 2 ∷ 4 ∷ 6 ∷ 8 ∷ []) (1 ∷ 3 ∷ 0 ∷ 2 ∷ 1 ∷ 3 ∷ 0 ∷ 2 ∷ [])) none ≡ ((2 ∷ 2 ∷ 2 ∷ 2 ∷ []) ∷ (1 ∷ 1 ∷ 1 ∷ 1 ∷ []) ∷ (0 ∷ 0 ∷ 0 ∷ 0 ∷ []) ∷ (0 ∷ 0 ∷ 0 ∷ 0 ∷ []) ∷ [], pos 0 ∷ pos 0 ∷ pos 0 ∷ pos 0 ∷ []))
     -- G
-    × (followers_of star.starts star.links (0 ∷ 1 ∷ 0 ∷ 0 ∷ []) (1 ∷ 65535 ∷ 1 ∷ 1 ∷ []) (2 ∷ 0 ∷ 1 ∷ 1 ∷ []) 2 4 ≡ Found 1 1 (record { edges = 3; max_degree = 3 }))
+    × (followers_of star.starts star.links (0 ∷ 1 ∷ 0 ∷ 0 ∷ []) (1 ∷ 65535 ∷ 1 ∷ 1 ∷ []) (2 ∷ 0 ∷ 1 ∷ 1 ∷ []) 2 4 ≡ found_with 1 1 (record { edges = 3; max_degree = 3 }))
     × (marks_of star.starts star.links (0 ∷ 1 ∷ 0 ∷ 0 ∷ []) 2 ≡ 2 ∷ 0 ∷ 0 ∷ 0 ∷ [])
     -- H
     × (rows (table (0 ∷ 3 ∷ 6 ∷ 9 ∷ 12 ∷ []) (1 ∷ 2 ∷ 3 ∷ 0 ∷ 2 ∷ 3 ∷ 0 ∷ 1 ∷ 3 ∷ 0 ∷ 1 ∷ 2 ∷ [])) none ≡ ((3 ∷ 3 ∷ 3 ∷ 3 ∷ []) ∷ (1 ∷ 1 ∷ 1 ∷ 1 ∷ []) ∷ (0 ∷ 0 ∷ 0 ∷ 0 ∷ []) ∷ (0 ∷ 0 ∷ 0 ∷ 0 ∷ []) ∷ [], pos 0 ∷ pos 0 ∷ pos 0 ∷ pos 0 ∷ []))

@@ -1,10 +1,11 @@
 -- Demand 3 of document 01, with document 02, cards 4, 6 and 10: one claim about the whole list of events, over the tables and records that the
 -- calls on its prefixes leave.
-use Rattle.std.specs.Prelude.{◌≡◌, Bool, not, cond, ◌&&◌, ◌||◌, List, ℕ, zero, suc, ◌+◌, ◌-◌, ◌≤◌, ◌<◌, length, take, get_or, ℤ, pos, ◌+ℤ◌, ◌-ℤ◌, T, eqb}
+use Rattle.std.specs.Prelude.{◌≡◌, Bool, not, cond, ◌&&◌, ◌||◌, List, ℕ, zero, suc, ◌+◌, ◌-◌, ◌≤◌, ◌<◌, length, take, get_or, ℤ, pos, ◌+ℤ◌, ◌-ℤ◌, T, eqb, Result, Ok}
 use Rattle.finite.specs.Count.{bit, tabulate, count, sum, below}
 use Rattle.table.specs.Table.{vertices}
 use Rattle.table.specs.Size.{size_of}
 use Rattle.table.specs.declared.size.Size.{Size}
+use Rattle.table.specs.Rule.{Refusal}
 use Rattle.table.specs.Guard.{clear}
 use Rattle.anchored.specs.Graph.{Graph}
 use Rattle.anchored.specs.Core.{level, layer}
@@ -16,11 +17,14 @@ use Rattle.anchored.specs.Session.{Row}
 use Rattle.anchored.specs.Events.{Event, anchors, ends, event_status, edge_graph}
 use Rattle.pool.specs.Input.{graph_of, anchored_by, admit_of}
 use Rattle.search.specs.Answers.{followers_of, marks_of}
-use Rattle.search.specs.declared.operation.Searched.{Searched}
-use Rattle.search.specs.declared.operation.Searched.TheVariants.{Found}
+use Rattle.search.specs.declared.find.Found.{Found}
 use Rattle.edit.specs.Edit.{last_start}
 use Rattle.edit.specs.Lent.{check_lent}
 use Rattle.session.specs.Run.{Lists, size, prefix, event_at, Slices, sized, run_of, pool_of, row_at, ended}
+
+-- a search that answers these followers, this reached count and this size
+abbrev pub found_with : ℕ → ℕ → Size → Result (Found × Size) Refusal
+found_with lifted reached size = Ok (record { lifted = lifted; reached = reached }, size)
 
 module _ (s l given : List ℕ) (events : Lists) where
   abbrev n : ℕ
@@ -49,7 +53,7 @@ module _ (s l given : List ℕ) (events : Lists) where
   size_at i = size_of (upto i).starts (linked i)
 
   -- what the search from x answers to that table and to the record's own bytes, levels and layers, and the marks it leaves
-  abbrev pub searched : ℕ → ℕ → Searched
+  abbrev pub searched : ℕ → ℕ → Result (Found × Size) Refusal
   searched i x = followers_of (upto i).starts (linked i) (upto i).anchored (upto i).levels (upto i).layers x n
 
   abbrev pub marks : ℕ → ℕ → List ℕ
@@ -88,7 +92,7 @@ module _ (s l given : List ℕ) (events : Lists) where
     -- of an anchored vertex the (net) yield reads -32,768, the reached count 65,535
     pub anchored : (v : ℕ) → v < n → T (set i v) → (get_or (upto i).yields v (pos 0) ≡ least) × (get_or (upto i).reached v 0 ≡ 65535)
     -- from any other the search answers its followers and its reached count; the yield is these followers less the level above the bare one
-    pub search : (v : ℕ) → v < n → T (not (set i v)) → searched i v ≡ Found (followers (graph i) (set i) v) (get_or (upto i).reached v 0) (size_at i)
+    pub search : (v : ℕ) → v < n → T (not (set i v)) → searched i v ≡ found_with (followers (graph i) (set i) v) (get_or (upto i).reached v 0) (size_at i)
     pub yields : (v : ℕ) → v < n → T (not (set i v)) → get_or (upto i).yields v (pos 0) ≡ pos (followers (graph i) (set i) v) -ℤ pos (get_or (upto i).levels v 0 - bare_level (graph i) v)
 
   -- its table, bytes and stamps are the plain session's
@@ -103,7 +107,7 @@ module _ (s l given : List ℕ) (events : Lists) where
     pub links : (upto (i + 1)).links ≡ (upto i).links
     pub anchored : set (i + 1) ≡ adding (set i) x
     -- the search from x, with the table and the sheet just before, answers the number shown as lifted: so many are marked 2
-    pub search : searched i x ≡ Found (shown i).lifted (get_or (upto i).reached x 0) (size_at i)
+    pub search : searched i x ≡ found_with (shown i).lifted (get_or (upto i).reached x 0) (size_at i)
     pub lifted : (shown i).lifted ≡ count (λ v. eqb (get_or (marks i x) v 0) 2) (below n)
     -- x apart, changed levels are exactly those of the vertices marked 2, each up by one
     pub levels : (v : ℕ) → v < n → (v ≡ x → ⊥) → get_or (upto (i + 1)).levels v 0 ≡ get_or (upto i).levels v 0 + bit (eqb (get_or (marks i x) v 0) 2)
