@@ -7,6 +7,8 @@ use native.Mathlib.Omega.{arith}
 use lib.ListN.{length, get_or, set, replicate, length-set, length-replicate}
 use lib.Dec.{ltb, eqb, ltb→lt, lt→ltb, nltb→le}
 use borrow.Author.Count.{below_more}
+use borrow.Author.Tests.{lt-ltb, le-ltb}
+use Rattle.std.specs.Prelude.{Some, None}
 use Rattle.finite.specs.Count.{In, bit, below}
 use Rattle.finite.specs.Search.{any, first_from, NoneFrom}
 use Rattle.finite.proofs.Tests.{and_l, and_r, nand, split, true_of, false_of}
@@ -15,7 +17,7 @@ use Rattle.finite.proofs.Search.{any-below-zero, any-below-more, member_yes, mem
 use Rattle.table.specs.Table.{SoundTable}
 use Rattle.anchored.specs.Terms.{Terms, ends_on, next_end, runs, runs_for, anchored_on}
 use Rattle.pool.specs.Input.{anchored_by, Admitted}
-use Rattle.terms.specs.Days.{Shows, Nearest}
+use Rattle.terms.specs.Days.{Shows, Nearest, day_before}
 
 module _ (t : Terms) (day : ℕ) where
   abbrev vertex : ℕ → ℕ
@@ -117,8 +119,10 @@ module _ (es : List ℕ) (day until : ℕ) (h : day < until) where
 -- ---- the loop over the days
 
 module _ (p : ℕ → Bool) (from until day : ℕ) (lo : from ≤ day) (none : NoneFrom p from day) where
-  pub found_day : day < until → p day ≡ true → first_from p (until - from) from ≡ day
-  found_day hi hit = from_hit p (until - from) from day lo (omega arith) none hit
+  pub found_day : day < until → p day ≡ true → day_before until (first_from p (until - from) from) ≡ Some day
+  found_day hi hit = rw (from_hit p (until - from) from day lo (omega arith) none hit, lt-ltb day until hi)
 
-  pub no_day : until ≤ day → day ≤ from + (until - from) → first_from p (until - from) from ≡ day
-  no_day done upto = from-none p (until - from) from (λ d a b. none d a (omega arith)) ∙ omega arith
+  pub no_day : until ≤ day → day_before until (first_from p (until - from) from) ≡ None
+  no_day done =
+      let past : until ≤ first_from p (until - from) from = omega (arith, from-none p (until - from) from (λ d a b. none d a (omega arith))) in
+      rw (le-ltb (first_from p (until - from) from) until past)

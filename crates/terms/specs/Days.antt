@@ -1,5 +1,5 @@
 -- Days worked out one after the other: what the steps promise one another.
-use Rattle.std.specs.Prelude.{◌≡◌, List, ℕ, ◌≤◌, ◌<◌, length, get_or}
+use Rattle.std.specs.Prelude.{◌≡◌, cond, Option, Some, None, List, ℕ, ◌≤◌, ◌<◌, length, get_or, ltb}
 use Rattle.finite.specs.Count.{bit, below}
 use Rattle.finite.specs.Search.{any}
 use Rattle.anchored.specs.Terms.{Terms, runs_for}
@@ -21,3 +21,7 @@ pub record Nearest (es : List ℕ) (day until m r : ℕ) : Type 0 where
   pub upto : r ≤ until
   pub least : (i : ℕ) → i < m → day < get_or es i 0 → r ≤ get_or es i 0
   pub one : r < until → (i : ℕ) × (i < m) × (get_or es i 0 ≡ r)
+
+-- a day, if it is before the end of the span
+abbrev pub day_before : ℕ → ℕ → Option ℕ
+day_before until day = cond (ltb day until) (Some day) None
