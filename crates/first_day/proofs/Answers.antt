@@ -13,6 +13,7 @@ use Rattle.table.specs.Table.{vertices, check_of, SoundTable}
 use Rattle.table.specs.Guard.{clear}
 use Rattle.table.specs.declared.size.Size.{Size}
 use Rattle.table.proofs.Guards.{both-passed}
+use Rattle.std.specs.Prelude.{None}
 use Rattle.table.proofs.Laws.{went_on, sound}
 use Rattle.anchored.specs.Terms.{Terms, terms, changes_on, first_under, first_under_on}
 use Rattle.anchored.proofs.Terms.{changes_suffice, no_span}
@@ -22,9 +23,8 @@ use Rattle.pool.proofs.Laws.{simple}
 use Rattle.pool.proofs.Lengths.{passed, each}
 use Rattle.terms.specs.Days.{TermsBelow}
 use Rattle.first_day.specs.Answers.{vertices_of, spans_of, lists_of, first_day_of, day_of}
-use Rattle.first_day.specs.declared.Dated.TheVariants.{Never}
+
 -- the computed cases come before the laws, so that a wrong definition is refused at a figure
-use Rattle.first_day.specs.Cases.{refusals}
 
 -- lists that are not refused are of one length, of vertices, and x is one
 pub lists-told : (n : ℕ) (vs fs es : List ℕ) (x : ℕ) → lists_of n vs fs es x ≡ clear → TermsBelow n (terms vs fs es) × (x < n)
@@ -60,6 +60,6 @@ module _ (s l vs fs es : List ℕ) (x : ℕ) (e : first_day_of s l vs fs es x �
   call_changes k from until small = changes_suffice (terms vs fs es) (graph_of s l) (simple call_told.0) x k call_told.2 small from until
 
 -- a span whose end is not after its first day answers none
-pub span_never : (t : Terms) (s l : List ℕ) (x k from until : ℕ) (size : Size) → until ≤ from → day_of (first_under t (graph_of s l) x k from until) until size ≡ Never size
+pub span_never : (t : Terms) (s l : List ℕ) (x k from until : ℕ) (size : Size) → until ≤ from → day_of (first_under t (graph_of s l) x k from until) until size ≡ (None, size)
 unfolding day_of
 span_never t s l x k from until size h = rw (le-ltb (first_under t (graph_of s l) x k from until) until (no_span t (graph_of s l) x k from until h))

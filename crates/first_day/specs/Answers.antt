@@ -1,5 +1,5 @@
 -- Document 02, card 8: what the first day under k is refused for, and its answer.
-use Rattle.std.specs.Prelude.{Bool, cond, List, [], ◌∷◌, ℕ, length, get_or, leb, ltb, eqb}
+use Rattle.std.specs.Prelude.{Bool, cond, Option, List, [], ◌∷◌, ℕ, length, get_or, leb, ltb, eqb}
 use Rattle.finite.specs.Search.{all, first}
 use Rattle.table.specs.Table.{vertices, check_of}
 use Rattle.table.specs.Guard.{refused, refuse, past}
@@ -7,8 +7,7 @@ use Rattle.table.specs.Guard.{Guard}
 use Rattle.table.specs.Guard.{clear}
 use Rattle.table.specs.declared.size.Size.{Size}
 use Rattle.pool.specs.Lengths.{outside}
-use Rattle.first_day.specs.declared.Dated.{Dated}
-use Rattle.first_day.specs.declared.Dated.TheVariants.{Day, Never}
+use Rattle.terms.specs.Days.{day_before}
 
 -- the end of term i is not after its first day
 abbrev pub empty_term : List ℕ → List ℕ → ℕ → Bool
@@ -31,5 +30,5 @@ unfoldable pub first_day_of : List ℕ → List ℕ → List ℕ → List ℕ �
 first_day_of s l vs fs es x = past (check_of s l) (lists_of (vertices s) vs fs es x)
 
 -- the answer: a day before the end of the span, or none, and the size of the table
-unfoldable pub day_of : ℕ → ℕ → Size → Dated
-day_of day until size = cond (ltb day until) (Day day size) (Never size)
+unfoldable pub day_of : ℕ → ℕ → Size → Option ℕ × Size
+day_of day until size = (day_before until day, size)
