@@ -1,5 +1,5 @@
 // Working the sheet of a table: levels, layers and components into slices of n.
-ghost use Rattle.std.specs.Prelude.{◌≡◌, [], ◌∷◌, map, length};
+ghost use Rattle.std.specs.Prelude.{◌≡◌, [], ◌∷◌, map, length, Ok, Err};
 ghost use Rattle.finite.specs.Count.{tabulate};
 ghost use Rattle.table.specs.Table.{vertices};
 ghost use Rattle.table.specs.Size.{size_of};
@@ -9,14 +9,8 @@ ghost use Rattle.anchored.specs.Component.{component as component_of};
 ghost use Rattle.pool.specs.Input.{graph_of, anchored_by, Admitted};
 ghost use Rattle.pool.specs.Arrays.{Holds};
 ghost use Rattle.pool.specs.Lengths.{slices_of};
-ghost use Rattle.level.specs.declared.work.Worked.TheVariants.{Done, Refused};
 
-// The answer of the working: the slices are filled, with the size of the table, or a refusal.
-#[derive(Drop)]
-pub enum Worked {
-    Done(table::size::Size),
-    Refused(table::Refusal),
-}
+use table::{Refusal, Size};
 
 // Levels, layers and components of an admitted table, into the first n places of scratch arrays.
 pub fn fill(
@@ -69,7 +63,7 @@ fn write_sheet(
     pool::lent::copy(&component, components);
 }
 
-// Levels, layers and components of a table with anchored vertices; a refusal leaves the slices as they are.
+// Levels, layers and components of a table with anchored vertices, into the slices, and its size; a refusal leaves the slices as they are.
 pub fn work(
     starts: &[u16],
     links: &[u16],
@@ -77,27 +71,18 @@ pub fn work(
     levels: &mut [u16],
     layers: &mut [u16],
     components: &mut [u16],
-) -> Worked
+) -> Result<Size, Refusal>
     ensures { let G = graph_of starts.now links.now in
         let A = anchored_by anchored.now in
         let guard = slices_of starts.now links.now anchored.now (map length (levels.old ∷ layers.old ∷ components.old ∷ [])) in
-        (result ≡ answer guard (Done (size_of starts.now links.now)) Refused)
+        (result ≡ answer guard (Ok (size_of starts.now links.now)) Err)
         × (levels.new ≡ held guard (tabulate (level_of G A) G.size) levels.old)
         × (layers.new ≡ held guard (tabulate (layer_of G A) G.size) layers.old)
         × (components.new ≡ held guard (tabulate (component_of G A) G.size) components.old) }
 {
-    let admitted = pool::lent::admit_slices(
-        starts,
-        links,
-        anchored,
-        &[levels.len(), layers.len(), components.len()],
-    );
-    match admitted {
-        table::Guard::Refused(refusal) => Worked::Refused(refusal),
-        table::Guard::Passed => {
-            let size = table::size::measure(starts, links);
-            write_sheet(starts, links, anchored, levels, layers, components);
-            Worked::Done(size)
-        }
-    }
+    let lengths = [levels.len(), layers.len(), components.len()];
+    pool::lent::admit_slices(starts, links, anchored, &lengths)?;
+    let size = Size::measure(starts, links);
+    write_sheet(starts, links, anchored, levels, layers, components);
+    Ok(size)
 }
