@@ -1,5 +1,5 @@
 -- The component list (patch list): its answer, and its three lists.
-use Rattle.std.specs.Prelude.{List, map, ℕ}
+use Rattle.std.specs.Prelude.{List, map, ℕ, Result, Ok, Err}
 use Rattle.finite.specs.Count.{count, below}
 use Rattle.table.specs.Table.{vertices}
 use Rattle.table.specs.Size.{size_of}
@@ -8,12 +8,12 @@ use Rattle.anchored.specs.Core.{level}
 use Rattle.anchored.specs.Component.{heads, component_size, ranked}
 use Rattle.pool.specs.Input.{graph_of, anchored_by}
 use Rattle.pool.specs.Lengths.{slices_of}
-use Rattle.components.specs.declared.Listed.{Listed}
-use Rattle.components.specs.declared.Listed.TheVariants.{Count, Refused}
+use Rattle.table.specs.Rule.{Refusal}
+use Rattle.table.specs.declared.size.Size.{Size}
 
 -- refused as the working of the sheet is; else how many components there are, and the size of the table
-unfoldable pub list_of : List ℕ → List ℕ → List ℕ → List ℕ → Listed
-list_of s l a lengths = answer (slices_of s l a lengths) (Count (count (heads (graph_of s l) (anchored_by a)) (below (vertices s))) (size_of s l)) Refused
+unfoldable pub list_of : List ℕ → List ℕ → List ℕ → List ℕ → Result (ℕ × Size) Refusal
+list_of s l a lengths = answer (slices_of s l a lengths) (Ok (count (heads (graph_of s l) (anchored_by a)) (below (vertices s)), size_of s l)) Err
 
 module _ (s l a : List ℕ) where
   -- the numbers of the component list

@@ -13,12 +13,7 @@ ghost use Rattle.components.specs.Answers.{list_of, numbers_of, levels_of, sizes
 ghost use Rattle.ranking.specs.Ranking.{ranked_in, Low};
 ghost use Rattle.components.specs.Entries.{members, Placed};
 
-// The answer of the list: how many components it has, with the size of the table, or a refusal.
-#[derive(Drop)]
-pub enum Listed {
-    Count(usize, table::size::Size),
-    Refused(table::Refusal),
-}
+use table::{Refusal, Size};
 
 // How many of n vertices have each component number, at the number's place. An anchored vertex has 65,535, which is no place.
 fn count_members(n: usize, component: &[u16; 1024], size: &mut [u16; 1024])
@@ -104,7 +99,7 @@ fn write_list(
     list(n, &level, &component, &size, levels, sizes, numbers)
 }
 
-// Lists the components of a table with anchored vertices; places past the list, and at a refusal all, keep their contents.
+// Lists the components of a table with anchored vertices: how many there are, with the size of the table; places past the list, and at a refusal all, keep their contents.
 pub fn list_components(
     starts: &[u16],
     links: &[u16],
@@ -112,7 +107,7 @@ pub fn list_components(
     levels: &mut [u16],
     sizes: &mut [u16],
     numbers: &mut [u16],
-) -> Listed
+) -> Result<(usize, Size), Refusal>
     ensures { let lengths = map length (levels.old ∷ sizes.old ∷ numbers.old ∷ []) in
         let guard = slices_of starts.now links.now anchored.now lengths in
         (result ≡ list_of starts.now links.now anchored.now lengths)
@@ -120,18 +115,9 @@ pub fn list_components(
         × (sizes.new ≡ held guard (front (sizes_of starts.now links.now anchored.now) sizes.old) sizes.old)
         × (numbers.new ≡ held guard (front (numbers_of starts.now links.now anchored.now) numbers.old) numbers.old) }
 {
-    let admitted = pool::lent::admit_slices(
-        starts,
-        links,
-        anchored,
-        &[levels.len(), sizes.len(), numbers.len()],
-    );
-    match admitted {
-        table::Guard::Refused(refusal) => Listed::Refused(refusal),
-        table::Guard::Passed => {
-            let size = table::size::measure(starts, links);
-            let count = write_list(starts, links, anchored, levels, sizes, numbers);
-            Listed::Count(count, size)
-        }
-    }
+    let lengths = [levels.len(), sizes.len(), numbers.len()];
+    pool::lent::admit_slices(starts, links, anchored, &lengths)?;
+    let size = Size::measure(starts, links);
+    let count = write_list(starts, links, anchored, levels, sizes, numbers);
+    Ok((count, size))
 }
