@@ -1,13 +1,15 @@
 // The numbers of an answer, as Rust and C get them.
 #![tactic(auto)]
 
-ghost use Rattle.std.specs.Prelude.{◌≡◌};
-ghost use Rattle.numbers.specs.Numbers.{accepted_as, refused_as, answered_as};
-ghost use Rattle.numbers.specs.Numbers.{checked_as, worked_as, levels_as, listed_as, searched_as, bounded_as, collapsed_as, dated_as, shared_as, ran_as};
+ghost use Rattle.std.specs.Prelude.{◌≡◌, refl, Some, None};
+ghost use Rattle.numbers.specs.Numbers.{accepted_as, refused_as, day_as, told_as, answered_as};
+
+use search::Found;
+use table::{Refusal, Size};
 
 // 0, the values of an accepted call and the size of its table, or a refusal's number and place.
 #[repr(C)]
-#[derive(Drop)]
+#[derive(Clone, Copy, Debug, PartialEq, Eq)]
 pub struct Answer {
     pub number: u64,
     pub first: u64,
@@ -17,7 +19,7 @@ pub struct Answer {
 }
 
 // An accepted call: 0, its values, and the size of its table.
-fn accepted(first: usize, second: usize, size: table::size::Size) -> Answer
+fn accept(first: usize, second: usize, size: Size) -> Answer
     ensures { result ≡ accepted_as first second size }
 {
     Answer {
@@ -30,131 +32,124 @@ fn accepted(first: usize, second: usize, size: table::size::Size) -> Answer
 }
 
 // A refused call: the number and the place, and nothing of a size.
-fn refused(refusal: table::Refusal) -> Answer
-    ensures { result ≡ refused_as refusal }
+fn refuse(refusal: &Refusal) -> Answer
+    ensures { result ≡ refused_as refusal.now }
 {
     Answer {
-        number: refusal.number as u64,
-        first: refusal.place as u64,
+        number: refusal.number() as u64,
+        first: refusal.place() as u64,
         second: 0,
         edges: 0,
         max_degree: 0,
     }
 }
 
-pub fn of_checked(checked: table::Checked) -> Answer
-    ensures { result ≡ checked_as checked }
-{
-    match checked {
-        table::Checked::Sound(size) => accepted(0, 0, size),
-        table::Checked::Refused(refusal) => refused(refusal),
+// What an accepted call hands back.
+pub trait Accepted {
+    ghost use Rattle.numbers.specs.declared.Answer.{Answer};
+
+    ghost numbers: { Self → Answer };
+
+    fn numbers(self) -> Answer
+        ensures { result ≡ numbers self };
+
+    // The number 0 tells it from a refusal.
+    ghost is_accepted: { (call : Self) → (numbers call).number ≡ 0 };
+}
+
+// The size alone: of a table that is checked, worked, or whose sheet is checked, of a collapse and of a session.
+impl Accepted for Size {
+    ghost numbers = { accepted_as 0 0 };
+
+    ghost is_accepted = { λ call. refl };
+
+    fn numbers(self) -> Answer {
+        accept(0, 0, self)
     }
 }
 
-pub fn of_worked(worked: level::work::Worked) -> Answer
-    ensures { result ≡ worked_as worked }
-{
-    match worked {
-        level::work::Worked::Done(size) => accepted(0, 0, size),
-        level::work::Worked::Refused(refusal) => refused(refusal),
+// How many components there are, or the length of a shared sheet.
+impl Accepted for (usize, Size) {
+    ghost numbers = { λ call. accepted_as call.0 0 call.1 };
+
+    ghost is_accepted = { λ call. refl };
+
+    fn numbers(self) -> Answer {
+        let (count, size) = self;
+        accept(count, 0, size)
     }
 }
 
-pub fn of_levels(checked: level_sheet::check::SheetChecked) -> Answer
-    ensures { result ≡ levels_as checked }
-{
-    match checked {
-        level_sheet::check::SheetChecked::Defined(size) => accepted(0, 0, size),
-        level_sheet::check::SheetChecked::Refused(refusal) => refused(refusal),
+// A ceiling.
+impl Accepted for (u16, Size) {
+    ghost numbers = { λ call. accepted_as call.0 0 call.1 };
+
+    ghost is_accepted = { λ call. refl };
+
+    fn numbers(self) -> Answer {
+        let (bound, size) = self;
+        accept(bound as usize, 0, size)
     }
 }
 
-pub fn of_listed(listed: components::Listed) -> Answer
-    ensures { result ≡ listed_as listed }
-{
-    match listed {
-        components::Listed::Count(count, size) => accepted(count, 0, size),
-        components::Listed::Refused(refusal) => refused(refusal),
-    }
-}
+// The two counts of a search.
+impl Accepted for (Found, Size) {
+    ghost numbers = { λ call. accepted_as call.0.lifted call.0.reached call.1 };
 
-pub fn of_searched(searched: search::Searched) -> Answer
-    ensures { result ≡ searched_as searched }
-{
-    match searched {
-        search::Searched::Found(lifted, reached, size) => accepted(lifted, reached, size),
-        search::Searched::Refused(refusal) => refused(refusal),
-    }
-}
+    ghost is_accepted = { λ call. refl };
 
-pub fn of_bounded(bounded: ceiling::Bounded) -> Answer
-    ensures { result ≡ bounded_as bounded }
-{
-    match bounded {
-        ceiling::Bounded::Ceiling(bound, size) => accepted(bound as usize, 0, size),
-        ceiling::Bounded::Refused(refusal) => refused(refusal),
-    }
-}
-
-pub fn of_collapsed(collapsed: collapse::Collapsed) -> Answer
-    ensures { result ≡ collapsed_as collapsed }
-{
-    match collapsed {
-        collapse::Collapsed::Marked(size) => accepted(0, 0, size),
-        collapse::Collapsed::Refused(refusal) => refused(refusal),
+    fn numbers(self) -> Answer {
+        let (found, size) = self;
+        accept(found.lifted, found.reached, size)
     }
 }
 
 // The day and 1, or two zeros where there is none.
-pub fn of_dated(dated: first_day::Dated) -> Answer
-    ensures { result ≡ dated_as dated }
-{
-    match dated {
-        first_day::Dated::Day(day, size) => accepted(day as usize, 1, size),
-        first_day::Dated::Never(size) => accepted(0, 0, size),
-        first_day::Dated::Refused(refusal) => refused(refusal),
+impl Accepted for (Option<u16>, Size) {
+    ghost numbers = { λ call. day_as call.0 call.1 };
+
+    ghost is_accepted = { λ call. elim call.0 as (λ day. (day_as day call.1).number ≡ 0) [ Some day ↦ refl | None ↦ refl ] };
+
+    fn numbers(self) -> Answer {
+        match self {
+            (Some(day), size) => accept(day as usize, 1, size),
+            (None, size) => accept(0, 0, size),
+        }
     }
 }
 
-pub fn of_shared(shared: houses::Shared) -> Answer
-    ensures { result ≡ shared_as shared }
-{
-    match shared {
-        houses::Shared::Sheet(end, size) => accepted(end, 0, size),
-        houses::Shared::Refused(refusal) => refused(refusal),
-    }
-}
+impl<T: Accepted> From<Result<T, Refusal>> for Answer {
+    ghost from_gives = { λ call answer. answer ≡ told_as T.numbers call };
 
-pub fn of_ran(ran: session::run::Ran) -> Answer
-    ensures { result ≡ ran_as ran }
-{
-    match ran {
-        session::run::Ran::Served(size) => accepted(0, 0, size),
-        session::run::Ran::Refused(refusal) => refused(refusal),
+    fn from(call: Result<T, Refusal>) -> Answer {
+        match call {
+            Ok(call) => call.numbers(),
+            Err(refusal) => refuse(&refusal),
+        }
     }
 }
 
 // 0 and the sheet's length, or a refusal's number and place.
 #[repr(C)]
-#[derive(Drop)]
+#[derive(Clone, Copy, Debug, PartialEq, Eq)]
 pub struct Sheeted {
     pub number: u64,
     pub value: u64,
 }
 
-pub fn of_answered(answered: answer::Answered) -> Sheeted
-    ensures { result ≡ answered_as answered }
-{
-    match answered {
-        answer::Answered::Sheet(size) => Sheeted {
-            number: 0,
-            value: size as u64,
-        },
-        answer::Answered::Refused(refusal) => {
-            Sheeted {
-                number: refusal.number as u64,
-                value: refusal.place as u64,
-            }
+impl From<Result<usize, Refusal>> for Sheeted {
+    ghost from_gives = { λ call sheeted. sheeted ≡ answered_as call };
+
+    fn from(call: Result<usize, Refusal>) -> Sheeted {
+        match call {
+            Ok(length) => Sheeted {
+                number: 0,
+                value: length as u64,
+            },
+            Err(cause) => Sheeted {
+                number: cause.number() as u64,
+                value: cause.place() as u64,
+            },
         }
     }
 }
