@@ -1,5 +1,5 @@
 -- The numbers of answers for Rust and C: those of the answers that they stand for, and 0 for no refused session. Assumes nothing.
-use mathlib.Core.Path.{◌≡◌, refl, ◌∙◌}
+use mathlib.Core.Path.{◌≡◌, refl, ap, ◌∙◌}
 use mathlib.Core.Bool.{Bool, true, false, not, cond}
 use mathlib.Core.List.{List}
 use Prim.Native.Nat.{ℕ}
@@ -11,20 +11,26 @@ use Rattle.table.specs.declared.size.Size.{Size}
 use Rattle.table.specs.Guard.{refused, refuse, number_of, answer}
 use Rattle.table.specs.Guard.{Guard}
 use Rattle.table.specs.Guard.{clear}
-use Rattle.std.specs.Prelude.{Ok, Err}
+use Rattle.std.specs.Prelude.{Result, Ok, Err}
+use Rattle.table.specs.Rule.{Refusal}
+use Rattle.table.proofs.Guards.{answer_as}
 use Rattle.table.proofs.Numbers.{Between, between_sound, between_next, between_found, between_past, zero-sound}
 use Rattle.edit.specs.Lent.{check_lent}
 use Rattle.edit.proofs.Checked.{between_lent}
 use Rattle.session.specs.Run.{admit_run}
 use Rattle.level_sheet.specs.SheetCheck.{number_in}
-use Rattle.level_sheet.specs.declared.check.SheetChecked.{SheetChecked}
-use Rattle.level_sheet.specs.declared.check.SheetChecked.TheVariants.{Defined, Refused as LevelsRefused}
-use Rattle.numbers.specs.Numbers.{levels_as, accepted_as, refused_as}
+use Rattle.numbers.specs.declared.Answer.{Answer}
+use Rattle.numbers.specs.Numbers.{told_as, levels_as, accepted_as, refused_as}
+
+-- of an operation's answer: those of the accepted call, or of the refusal
+pub told : {T : Type 0} (accepted : T → Answer) {call : Result T Refusal} {numbers : Answer} {guard : Guard} {x : T} → numbers ≡ told_as accepted call → call ≡ answer guard (Ok x) Err
+    → numbers ≡ answer guard (accepted x) refused_as
+told accepted e f = e ∙ ap (told_as accepted) f ∙ answer_as (told_as accepted) _ _ _
 
 -- of the check of a level sheet
-pub number_is : (c : SheetChecked) → (levels_as c).number ≡ number_in c
-number_is (Defined size) = refl
-number_is (LevelsRefused r) = refl
+pub number_is : (c : Result Size Refusal) → (levels_as c).number ≡ number_in c
+number_is (Ok size) = refl
+number_is (Err r) = refl
 
 -- a session's refusals have the numbers 1 to 12
 between_run : (s l given : List ℕ) (m : ℕ) (matches fits : Bool) → Between 1 12 (admit_run s l given m matches fits)

@@ -36,7 +36,7 @@ pub extern "C" fn planner_work(
         × (layers.new ≡ held guard (tabulate (layer G A) G.size) layers.old)
         × (components.new ≡ held guard (tabulate (component G A) G.size) components.old) }
 {
-    numbers::of_worked(level::work::work(starts, links, anchored, levels, layers, components))
+    Answer::from(level::work::work(starts, links, anchored, levels, layers, components))
 }
 
 #[unsafe(no_mangle)]
@@ -55,7 +55,7 @@ pub extern "C" fn planner_list_components(
         × (sizes.new ≡ held guard (front (sizes_of starts.now links.now anchored.now) sizes.old) sizes.old)
         × (numbers.new ≡ held guard (front (numbers_of starts.now links.now anchored.now) numbers.old) numbers.old) }
 {
-    numbers::of_listed(components::list_components(starts, links, anchored, levels, sizes, numbers))
+    Answer::from(components::list_components(starts, links, anchored, levels, sizes, numbers))
 }
 
 #[unsafe(no_mangle)]
@@ -69,7 +69,7 @@ pub extern "C" fn planner_check_sheet(
     ensures answer { result ≡ answer (check_sheet_of starts.now links.now anchored.now levels.now layers.now) (accepted_as 0 0 (size_of starts.now links.now)) refused_as }
     ensures tells { Tells starts.now links.now anchored.now levels.now layers.now result.number }
 {
-    numbers::of_levels(level_sheet::check::check_sheet(starts, links, anchored, levels, layers))
+    Answer::from(level_sheet::check::check_sheet(starts, links, anchored, levels, layers))
 }
 
 #[unsafe(no_mangle)]
@@ -88,7 +88,7 @@ pub extern "C" fn planner_followers(
         (result ≡ answer guard (accepted_as (followers G A x) (reached G A x) (size_of starts.now links.now)) refused_as)
         × (marks.new ≡ held guard (marks_of starts.now links.now anchored.now x) marks.old) }
 {
-    numbers::of_searched(search::followers(starts, links, anchored, levels, layers, x, marks))
+    Answer::from(search::followers(starts, links, anchored, levels, layers, x, marks))
 }
 
 #[unsafe(no_mangle)]
@@ -104,7 +104,7 @@ pub extern "C" fn planner_ceiling(
         let G = graph_of starts.now links.now in
         result ≡ answer guard (accepted_as (ceiling G (anchored_by anchored.now) x) 0 (size_of starts.now links.now)) refused_as }
 {
-    numbers::of_bounded(ceiling::ceiling(starts, links, anchored, levels, layers, x))
+    Answer::from(ceiling::ceiling(starts, links, anchored, levels, layers, x))
 }
 
 #[unsafe(no_mangle)]
@@ -121,5 +121,5 @@ pub extern "C" fn planner_collapse(
         (result ≡ answer guard (accepted_as 0 0 (size_of starts.now links.now)) refused_as)
         × (marks.new ≡ held guard (fall_marks_of starts.now links.now anchored.now x) marks.old) }
 {
-    numbers::of_collapsed(collapse::collapse(starts, links, anchored, levels, layers, x, marks))
+    Answer::from(collapse::collapse(starts, links, anchored, levels, layers, x, marks))
 }

@@ -36,7 +36,7 @@ pub extern "C" fn planner_run(
         (result ≡ answer guard (accepted_as 0 0 (size_of starts.old links.old)) refused_as) × (after ≡ held guard (ended starts.old links.old given.now events) lent) }
     ensures claim { result.number ≡ 0 → Claim starts.old links.old given.now (lists kinds.now firsts.now seconds.now) }
 {
-    numbers::of_ran(session::run::run(
+    Answer::from(session::run::run(
         starts, links, given, kinds, firsts, seconds, anchored, levels, layers, components, yields,
         reached, stamps, status, lifted, redone,
     ))

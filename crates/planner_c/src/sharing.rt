@@ -21,5 +21,5 @@ pub extern "C" fn planner_houses(
         (result ≡ answer guard (accepted_as (length text) 0 (size_of starts.now links.now)) refused_as)
         × (sheet.new ≡ held guard (front text sheet.old) sheet.old) }
 {
-    numbers::of_shared(houses::share_rounds(starts, links, anchored, houses, quotas, sheet))
+    Answer::from(houses::share_rounds(starts, links, anchored, houses, quotas, sheet))
 }

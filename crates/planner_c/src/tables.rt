@@ -11,5 +11,5 @@ use numbers::Answer;
 pub extern "C" fn planner_check(starts: &[u16], links: &[u16]) -> Answer
     ensures { result ≡ answer (check_of starts.now links.now) (accepted_as 0 0 (size_of starts.now links.now)) refused_as }
 {
-    numbers::of_checked(table::check(starts, links))
+    Answer::from(table::check(starts, links))
 }

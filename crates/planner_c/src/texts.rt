@@ -12,5 +12,5 @@ pub extern "C" fn planner_text_to_sheet(text: &[u8], sheet: &mut [u8]) -> Sheete
     ensures sheet { let guard = text_of text.now (length sheet.old) in
         sheet.new ≡ held guard (front (sheet_of_text text.now) sheet.old) sheet.old }
 {
-    numbers::of_answered(answer::text_to_sheet(text, sheet))
+    Sheeted::from(answer::text_to_sheet(text, sheet))
 }

@@ -1,0 +1,12 @@
+use Rattle.std.proofs.Common.{sym, ap, ◌∙◌, subst}
+use Rattle.level_sheet.specs.SheetCheck.{Tells}
+use Rattle.planner_c.proofs.Numbers.{told, number_is}
+use Rattle.planner_c.proofs.levels.planner_check_sheet.Goals as goal
+
+pub returns-clause-answer : goal.returns-clause-answer
+returns-clause-answer c = told _ c.from.ensures c.check_sheet.ensures.answer
+
+pub returns-clause-tells : goal.returns-clause-tells
+returns-clause-tells c =
+    let number = ap (λ r. r.number) c.from.ensures ∙ number_is c.check_sheet.result in
+    subst (Tells _ _ _ _ _) (sym number) c.check_sheet.ensures.tells
