@@ -6,18 +6,28 @@ pub mod read; // the fields of a case
 
 use read::Case;
 use std::io;
+use std::io::Read;
 
-// Hands each case of standard input to `run`, in order; a mark ends each, but for the last perhaps.
-pub fn run<R: Input + AllocGlobal, F: FnMut(&mut Case<'_>) -> io::Result<()>>(
+// What is read of standard input: its first so many bytes, and of these so many cases, parted by a mark.
+#[derive(Clone, Copy, Debug, PartialEq, Eq)]
+pub struct Extent {
+    pub bytes: u64,
+    pub mark: u8,
+    pub cases: usize,
+}
+
+// Hands each case of standard input to `run`, in order; where the input has fewer, the others are empty.
+pub fn run<R: Input + AllocGlobal, F: FnMut(&Case<'_>) -> io::Result<()>>(
     rt: &R,
-    mark: char,
+    extent: Extent,
     mut run: F,
 ) -> io::Result<()>
     requires { F.IsAlwaysCallable run }
 {
-    let text = io::read_to_string(rt.alloc(), rt.reader())?;
-    for case in text.as_str().split_terminator(mark) {
-        run(&mut Case::new(rt.alloc(), case))?;
+    let mut text = Vec::new(rt.alloc());
+    rt.reader().take(extent.bytes).read_to_end(&mut text)?;
+    for k in 0..extent.cases {
+        run(&Case::new(rt.alloc(), read::piece(&text, extent.mark, k)))?;
     }
     Ok(())
 }

@@ -1,8 +1,7 @@
-// Answers, rows and sizes as they are printed.
+// Answers, rows and sizes as they are printed. A case's name is printed byte for byte as it was read.
 use std::fmt::{Display, Formatter};
 use std::{fmt, io};
-use table::Refusal;
-use table::size::Size;
+use table::{Refusal, Size};
 
 // `edges NUMBER max degree NUMBER`.
 #[derive(Drop)]
@@ -30,6 +29,17 @@ impl<'a, T: Display> Display for Row<'a, T> {
     }
 }
 
+// `NAME TITLE` and the row.
+pub fn labelled_row<T: Display>(
+    rt: &impl Print,
+    name: &[u8],
+    title: &str,
+    numbers: &[T],
+) -> io::Result<()> {
+    rt.write_all(name)?;
+    println!(rt; " {title}{}", Row(numbers))
+}
+
 // Ends a line by what `show` prints of the answer, or by ` refused NUMBER PLACE`.
 pub fn answer<R: Print, T: Drop, F: FnOnce(T) -> io::Result<()> + Drop>(
     rt: &R,
@@ -40,7 +50,7 @@ pub fn answer<R: Print, T: Drop, F: FnOnce(T) -> io::Result<()> + Drop>(
 {
     match answer {
         Ok(value) => show(value),
-        Err(refusal) => println!(rt; " refused {} {}", refusal.number, refusal.place),
+        Err(refusal) => println!(rt; " {refusal}"),
     }
 }
 

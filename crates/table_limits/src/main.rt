@@ -2,28 +2,21 @@
 // way of refusal, on a line `NAME: STARTS: LINKS` each.
 #![tactic(auto)]
 
+use cases::Extent;
 use cases::read::Case;
 use std::io;
-use table::size::Size;
-use table::{Checked, Refusal};
-
-fn checked(answer: Checked) -> Result<Size, Refusal> {
-    match answer {
-        Checked::Sound(size) => Ok(size),
-        Checked::Refused(refusal) => Err(refusal),
-    }
-}
 
 // Prints `NAME: sound` and the size, or `NAME: refused NUMBER PLACE`.
-fn run(rt: &impl Print, name: &str, starts: &[u16], links: &[u16]) -> io::Result<()> {
-    print!(rt; "{name}:")?;
-    cases::print::sound(rt, checked(table::check(starts, links)))
+fn run(rt: &impl Print, name: &[u8], starts: &[u16], links: &[u16]) -> io::Result<()> {
+    rt.write_all(name)?;
+    print!(rt; ":")?;
+    cases::print::sound(rt, table::check(starts, links))
 }
 
 fn run_vertices(rt: &impl Print) -> io::Result<()> {
     let zeros = [0u16; 1026];
-    run(rt, "1024 vertices", &zeros[..1025], &[])?;
-    run(rt, "1025 vertices", &zeros, &[])
+    run(rt, b"1024 vertices", &zeros[..1025], &[])?;
+    run(rt, b"1025 vertices", &zeros, &[])
 }
 
 // Each of the vertices 0 to 63 is paired with each of 64 to 191; past the limit 192 is paired with 193 too.
@@ -34,21 +27,25 @@ fn run_links(rt: &(impl Print + AllocGlobal)) -> io::Result<()> {
     let of_low = (0..64).flat_map(|_| 64..192u16);
     let of_high = (64..192).flat_map(|_| 0..64u16);
     let mut links: Vec<u16> = of_low.chain(of_high).collect(rt.alloc())?;
-    run(rt, "16384 links", &starts, &links)?;
+    run(rt, b"16384 links", &starts, &links)?;
     starts.extend([16385, 16386])?;
     links.extend([193, 192])?;
-    run(rt, "16386 links", &starts, &links)
+    run(rt, b"16386 links", &starts, &links)
 }
 
-fn run_case(rt: &impl Print, case: &mut Case<'_>) -> io::Result<()> {
-    let name = case.text();
-    let starts = case.numbers()?;
-    let links = case.numbers()?;
-    run(rt, name, &starts, &links)
+fn run_case(rt: &impl Print, case: &Case<'_>) -> io::Result<()> {
+    let starts = case.numbers(1, 5)?;
+    let links = case.numbers(2, 6)?;
+    run(rt, case.field(0), &starts, &links)
 }
 
 fn main(rt: HostRuntime) -> io::Result<()> {
     run_vertices(&rt)?;
     run_links(&rt)?;
-    cases::run(&rt, '\n', |case| run_case(&rt, case))
+    let lines = Extent {
+        bytes: 1024,
+        mark: b'\n',
+        cases: 14,
+    };
+    cases::run(&rt, lines, |case| run_case(&rt, case))
 }
