@@ -2,33 +2,32 @@
 // texts that it refuses; then on bytes past the greatest size.
 #![tactic(auto)]
 
-use answer::{Answered, text_to_sheet};
+use answer::text_to_sheet;
+use cases::Extent;
 use cases::read::Case;
 use std::io;
-use table::Refusal;
-
-fn answered(answer: Answered) -> Result<usize, Refusal> {
-    match answer {
-        Answered::Sheet(size) => Ok(size),
-        Answered::Refused(refusal) => Err(refusal),
-    }
-}
 
 // Prints `NAME: sheet of SIZE bytes` or `NAME: refused NUMBER PLACE`.
-fn run(rt: &(impl Print + AllocGlobal), name: &str, room: usize, text: &[u8]) -> io::Result<()> {
-    let mut sheet = vec![in rt.alloc(); 0u8; room]?;
-    let answer = answered(text_to_sheet(text, &mut sheet));
-    print!(rt; "{name}:")?;
+fn run(rt: &impl Print, name: &[u8], text: &[u8], sheet: &mut [u8]) -> io::Result<()> {
+    let answer = text_to_sheet(text, sheet);
+    rt.write_all(name)?;
+    print!(rt; ":")?;
     cases::print::answer(rt, answer, |size| println!(rt; " sheet of {size} bytes"))
 }
 
-fn run_case(rt: &(impl Print + AllocGlobal), case: &mut Case<'_>) -> io::Result<()> {
-    let name = case.text();
-    let room = case.number()?;
-    run(rt, name, room, case.text().as_bytes())
+// Of the bytes asked for at most as many as the longest sheet has are lent.
+fn run_case(rt: &impl Print, case: &Case<'_>) -> io::Result<()> {
+    let mut sheet = [0u8; 64320];
+    let room = sheet.len().min(case.number(1) as usize);
+    run(rt, case.field(0), case.field(2), &mut sheet[..room])
 }
 
 fn main(rt: HostRuntime) -> io::Result<()> {
-    cases::run(&rt, ';', |case| run_case(&rt, case))?;
-    run(&rt, "65,537 bytes", 48, &[b'x'; 65537])
+    let cases = Extent {
+        bytes: 2048,
+        mark: b';',
+        cases: 15,
+    };
+    cases::run(&rt, cases, |case| run_case(&rt, case))?;
+    run(&rt, b"65,537 bytes", &[b'x'; 65537], &mut [0; 48])
 }

@@ -3,40 +3,37 @@
 // kite, which has two levels, from three of a fork, where two walks end at one vertex, and a refusal of each kind after the table's.
 #![tactic(auto)]
 
+use cases::Extent;
 use cases::print::{Shown, answer};
 use cases::read::Case;
-use ceiling::{Bounded, ceiling};
+use ceiling::ceiling;
 use std::io;
-use table::Refusal;
-use table::size::Size;
 
-fn bounded(answer: Bounded) -> Result<(u16, Size), Refusal> {
-    match answer {
-        Bounded::Ceiling(bound, size) => Ok((bound, size)),
-        Bounded::Refused(refusal) => Err(refusal),
-    }
-}
-
-fn run_case(rt: &impl Print, case: &mut Case<'_>) -> io::Result<()> {
-    let name = case.text();
-    let pool = case.pool()?;
-    let sheet = case.sheet()?;
+fn run_case(rt: &impl Print, case: &Case<'_>) -> io::Result<()> {
+    let pool = case.pool(6, 12, 5)?;
+    let sheet = case.sheet(5, 5)?;
     let bound = ceiling(
         &pool.starts,
         &pool.links,
         &pool.anchored,
         &sheet.levels,
         &sheet.layers,
-        case.number()?,
+        case.number(6) as usize,
     );
-    print!(rt; "{name} ceiling")?;
+    rt.write_all(case.field(0))?;
+    print!(rt; " ceiling")?;
     answer(
         rt,
-        bounded(bound),
+        bound,
         |(bound, size)| println!(rt; " {bound} {}", Shown(size)),
     )
 }
 
 fn main(rt: HostRuntime) -> io::Result<()> {
-    cases::run(&rt, '\n', |case| run_case(&rt, case))
+    let lines = Extent {
+        bytes: 4096,
+        mark: b'\n',
+        cases: 46,
+    };
+    cases::run(&rt, lines, |case| run_case(&rt, case))
 }

@@ -3,31 +3,16 @@
 // kite, which has two levels, and a refusal of each kind after the table's.
 #![tactic(auto)]
 
+use cases::Extent;
 use cases::print::{Row, Shown, answer, sound};
 use cases::read::{Case, Pool, Sheet};
-use collapse::{Collapsed, collapse};
-use search::{Searched, followers};
+use collapse::collapse;
+use search::{Found, followers};
 use std::io;
-use table::Refusal;
-use table::size::Size;
-
-fn found(answer: Searched) -> Result<(usize, usize, Size), Refusal> {
-    match answer {
-        Searched::Found(lifted, reached, size) => Ok((lifted, reached, size)),
-        Searched::Refused(refusal) => Err(refusal),
-    }
-}
-
-fn collapsed(answer: Collapsed) -> Result<Size, Refusal> {
-    match answer {
-        Collapsed::Marked(size) => Ok(size),
-        Collapsed::Refused(refusal) => Err(refusal),
-    }
-}
 
 fn run_search(
     rt: &impl Print,
-    name: &str,
+    name: &[u8],
     pool: &Pool,
     sheet: &Sheet,
     x: usize,
@@ -42,15 +27,16 @@ fn run_search(
         x,
         marks,
     );
-    print!(rt; "{name} marks{}", Row(marks))?;
-    answer(rt, found(searched), |(lifted, reached, size)| {
+    rt.write_all(name)?;
+    print!(rt; " marks{}", Row(marks))?;
+    answer(rt, searched, |(Found { lifted, reached }, size)| {
         println!(rt; " lifted {lifted} reached {reached} {}", Shown(size))
     })
 }
 
 fn run_collapse(
     rt: &impl Print,
-    name: &str,
+    name: &[u8],
     pool: &Pool,
     sheet: &Sheet,
     x: usize,
@@ -65,21 +51,25 @@ fn run_collapse(
         x,
         marks,
     );
-    print!(rt; "{name} falls{}", Row(marks))?;
-    sound(rt, collapsed(fallen))
+    rt.write_all(name)?;
+    print!(rt; " falls{}", Row(marks))?;
+    sound(rt, fallen)
 }
 
-fn run_case(rt: &impl Print, case: &mut Case<'_>) -> io::Result<()> {
-    let name = case.text();
-    let pool = case.pool()?;
-    let sheet = case.sheet()?;
-    let x = case.number()?;
-    let mut marks: Vec<u8> = case.numbers()?;
-    let mut falls = marks.clone()?;
-    run_search(rt, name, &pool, &sheet, x, &mut marks)?;
-    run_collapse(rt, name, &pool, &sheet, x, &mut falls)
+fn run_case(rt: &impl Print, case: &Case<'_>) -> io::Result<()> {
+    let name = case.field(0);
+    let pool = case.pool(5, 12, 4)?;
+    let sheet = case.sheet(4, 5)?;
+    let x = case.number(6) as usize;
+    run_search(rt, name, &pool, &sheet, x, &mut case.bytes(7, 4)?)?;
+    run_collapse(rt, name, &pool, &sheet, x, &mut case.bytes(7, 4)?)
 }
 
 fn main(rt: HostRuntime) -> io::Result<()> {
-    cases::run(&rt, '\n', |case| run_case(&rt, case))
+    let lines = Extent {
+        bytes: 4096,
+        mark: b'\n',
+        cases: 43,
+    };
+    cases::run(&rt, lines, |case| run_case(&rt, case))
 }

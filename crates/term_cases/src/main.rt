@@ -2,42 +2,37 @@
 // with terms that meet, overlap and lie outside the span, and a refusal of each kind after the table's.
 #![tactic(auto)]
 
+use cases::Extent;
 use cases::print::{Shown, answer};
 use cases::read::Case;
-use first_day::{Dated, first_day};
+use first_day::first_day;
 use std::io;
-use table::Refusal;
-use table::size::Size;
 
-fn dated(answer: Dated) -> Result<(Option<u16>, Size), Refusal> {
-    match answer {
-        Dated::Day(day, size) => Ok((Some(day), size)),
-        Dated::Never(size) => Ok((None, size)),
-        Dated::Refused(refusal) => Err(refusal),
-    }
-}
-
-fn run_case(rt: &impl Print, case: &mut Case<'_>) -> io::Result<()> {
-    let name = case.text();
-    let starts: Vec<u16> = case.numbers()?;
-    let links: Vec<u16> = case.numbers()?;
-    let vertices: Vec<u16> = case.numbers()?;
-    let firsts: Vec<u16> = case.numbers()?;
-    let ends: Vec<u16> = case.numbers()?;
-    let from = case.number()?;
-    let until = case.number()?;
-    let x = case.number()?;
-    let k = case.number()?;
+fn run_case(rt: &impl Print, case: &Case<'_>) -> io::Result<()> {
+    let starts = case.numbers(1, 5)?;
+    let links = case.numbers(2, 12)?;
+    let vertices = case.numbers(3, 4)?;
+    let firsts = case.numbers(4, 4)?;
+    let ends = case.numbers(5, 4)?;
+    let from = case.number(6);
+    let until = case.number(7);
+    let x = case.number(8) as usize;
+    let k = case.number(9);
     let day = first_day(
         &starts, &links, &vertices, &firsts, &ends, from, until, x, k,
     );
-    print!(rt; "{name}")?;
-    answer(rt, dated(day), |(day, size)| match day {
+    rt.write_all(case.field(0))?;
+    answer(rt, day, |(day, size)| match day {
         Some(day) => println!(rt; " day {day} {}", Shown(size)),
         None => println!(rt; " never {}", Shown(size)),
     })
 }
 
 fn main(rt: HostRuntime) -> io::Result<()> {
-    cases::run(&rt, '\n', |case| run_case(&rt, case))
+    let lines = Extent {
+        bytes: 4096,
+        mark: b'\n',
+        cases: 29,
+    };
+    cases::run(&rt, lines, |case| run_case(&rt, case))
 }
