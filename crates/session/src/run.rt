@@ -17,37 +17,44 @@ use pool::lent::all_are;
 use records::Record;
 use table::{Refusal, Rule, Size, refuse};
 
+// The events, in three lists of one length.
+#[derive(Clone, Copy)]
+struct EventLists<'a> {
+    kinds: &'a [u16],
+    firsts: &'a [u16],
+    seconds: &'a [u16],
+}
+
 // Stores the zeros past the last start, then serves the events: the table and the record after all of them, and the three numbers of each.
 fn serve(
     starts: &mut [u16],
     links: &mut [u16],
     given: &[u8],
-    kinds: &[u16],
-    firsts: &[u16],
-    seconds: &[u16],
+    events: &EventLists,
     status: &mut [u16],
     lifted: &mut [u16],
     redone: &mut [u16],
 ) -> Record
-    requires runs { Runs starts.old links.old given.now (lists kinds.now firsts.now seconds.now) }
-    requires status_len { length status.old ≡ length kinds.now }
-    requires lifted_len { length lifted.old ≡ length kinds.now }
-    requires redone_len { length redone.old ≡ length kinds.now }
-    ensures kept { let end = pool_of starts.old links.old given.now (lists kinds.now firsts.now seconds.now) (length kinds.now) in
+    requires runs { Runs starts.old links.old given.now (lists events.now.kinds.now events.now.firsts.now events.now.seconds.now) }
+    requires status_len { length status.old ≡ length events.now.kinds.now }
+    requires lifted_len { length lifted.old ≡ length events.now.kinds.now }
+    requires redone_len { length redone.old ≡ length events.now.kinds.now }
+    ensures kept { let end = pool_of starts.old links.old given.now (lists events.now.kinds.now events.now.firsts.now events.now.seconds.now) (length events.now.kinds.now) in
         Tabled starts.new links.new end.graph × Keeps starts.new links.new result end.plain × (result.reaching ≡ true) }
-    ensures status { let events = lists kinds.now firsts.now seconds.now in
-        status.new ≡ tabulate (λ i. (row_at starts.old links.old given.now events i).status) (length kinds.now) }
-    ensures lifted { let events = lists kinds.now firsts.now seconds.now in
-        lifted.new ≡ tabulate (λ i. (row_at starts.old links.old given.now events i).lifted) (length kinds.now) }
-    ensures redone { let events = lists kinds.now firsts.now seconds.now in
-        redone.new ≡ tabulate (λ i. (row_at starts.old links.old given.now events i).redone) (length kinds.now) }
+    ensures status { let served = lists events.now.kinds.now events.now.firsts.now events.now.seconds.now in
+        status.new ≡ tabulate (λ i. (row_at starts.old links.old given.now served i).status) (length events.now.kinds.now) }
+    ensures lifted { let served = lists events.now.kinds.now events.now.firsts.now events.now.seconds.now in
+        lifted.new ≡ tabulate (λ i. (row_at starts.old links.old given.now served i).lifted) (length events.now.kinds.now) }
+    ensures redone { let served = lists events.now.kinds.now events.now.firsts.now events.now.seconds.now in
+        redone.new ≡ tabulate (λ i. (row_at starts.old links.old given.now served i).redone) (length events.now.kinds.now) }
 {
     edit::lent::zero_behind(starts, links);
     let mut kept = records::begin::begin(starts, links, given, true);
-    for i in 0..kinds.len() {
-        let first = firsts[i] as usize;
-        let second = seconds[i] as usize;
-        let stepped = events::turn(starts, links, kept, kinds[i], first, second, i as u16 + 1);
+    for i in 0..events.kinds.len() {
+        let first = events.firsts[i] as usize;
+        let second = events.seconds[i] as usize;
+        let kind = events.kinds[i];
+        let stepped = events::turn(starts, links, kept, kind, first, second, i as u16 + 1);
         kept = stepped.kept;
         let row = stepped.row;
         status[i] = row.status;
@@ -62,9 +69,7 @@ fn write(
     starts: &mut [u16],
     links: &mut [u16],
     given: &[u8],
-    kinds: &[u16],
-    firsts: &[u16],
-    seconds: &[u16],
+    events: &EventLists,
     anchored: &mut [u8],
     levels: &mut [u16],
     layers: &mut [u16],
@@ -76,17 +81,15 @@ fn write(
     lifted: &mut [u16],
     redone: &mut [u16],
 )
-    requires runs { Runs starts.old links.old given.now (lists kinds.now firsts.now seconds.now) }
+    requires runs { Runs starts.old links.old given.now (lists events.now.kinds.now events.now.firsts.now events.now.seconds.now) }
     requires fits { let lent = slices starts.old links.old anchored.old levels.old layers.old components.old
         yields.old reached.old stamps.old status.old lifted.old redone.old in
-        Fits (vertices starts.old) (length kinds.now) lent }
+        Fits (vertices starts.old) (length events.now.kinds.now) lent }
     ensures { let after = slices starts.new links.new anchored.new levels.new layers.new components.new
         yields.new reached.new stamps.new status.new lifted.new redone.new in
-        after ≡ ended starts.old links.old given.now (lists kinds.now firsts.now seconds.now) }
+        after ≡ ended starts.old links.old given.now (lists events.now.kinds.now events.now.firsts.now events.now.seconds.now) }
 {
-    let kept = serve(
-        starts, links, given, kinds, firsts, seconds, status, lifted, redone,
-    );
+    let kept = serve(starts, links, given, events, status, lifted, redone);
     super::lent::copy_sheet(&kept, levels, layers, components);
     super::lent::copy_rows(&kept, anchored, yields, reached, stamps);
 }
@@ -171,9 +174,14 @@ pub fn run(
     let numbers = [status.len(), lifted.len(), redone.len()];
     admit(starts, links, given, kinds.len(), &rest, &records, &numbers)?;
     let size = Size::measure(starts, links);
+    let events = EventLists {
+        kinds,
+        firsts,
+        seconds,
+    };
     write(
-        starts, links, given, kinds, firsts, seconds, anchored, levels, layers, components, yields,
-        reached, stamps, status, lifted, redone,
+        starts, links, given, &events, anchored, levels, layers, components, yields, reached,
+        stamps, status, lifted, redone,
     );
     Ok(size)
 }
