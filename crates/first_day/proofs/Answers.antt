@@ -2,6 +2,7 @@
 use mathlib.Core.Path.{◌≡◌, refl}
 use mathlib.Core.Logic.{inl, inr}
 use mathlib.Core.List.{List, [], ◌∷◌}
+use Rattle.std.specs.Prelude.{None}
 use Prim.Native.Nat.{ℕ, ◌≤◌, ◌<◌}
 use native.Mathlib.Omega.{arith}
 use lib.ListN.{length, get_or}
@@ -13,7 +14,6 @@ use Rattle.table.specs.Table.{vertices, check_of, SoundTable}
 use Rattle.table.specs.Guard.{clear}
 use Rattle.table.specs.declared.size.Size.{Size}
 use Rattle.table.proofs.Guards.{both-passed}
-use Rattle.std.specs.Prelude.{None}
 use Rattle.table.proofs.Laws.{went_on, sound}
 use Rattle.anchored.specs.Terms.{Terms, terms, changes_on, first_under, first_under_on}
 use Rattle.anchored.proofs.Terms.{changes_suffice, no_span}
@@ -23,8 +23,8 @@ use Rattle.pool.proofs.Laws.{simple}
 use Rattle.pool.proofs.Lengths.{passed, each}
 use Rattle.terms.specs.Days.{TermsBelow}
 use Rattle.first_day.specs.Answers.{vertices_of, spans_of, lists_of, first_day_of, day_of}
-
 -- the computed cases come before the laws, so that a wrong definition is refused at a figure
+use Rattle.first_day.specs.Cases.{refusals}
 
 -- lists that are not refused are of one length, of vertices, and x is one
 pub lists-told : (n : ℕ) (vs fs es : List ℕ) (x : ℕ) → lists_of n vs fs es x ≡ clear → TermsBelow n (terms vs fs es) × (x < n)
