@@ -23,9 +23,9 @@ use Rattle.numbers.specs.declared.Answer.{Answer}
 use Rattle.numbers.specs.Numbers.{told_as, levels_as, accepted_as, refused_as}
 
 -- of an operation's answer: those of the accepted call, or of the refusal
-pub told : {T : Type 0} (accepted : T → Answer) {call : Result T Refusal} {numbers : Answer} {guard : Guard} {x : T} → numbers ≡ told_as accepted call → call ≡ answer guard (Ok x) Err
+pub told : {T : Type 0} (accepted : T → Answer) {call : Result T Refusal} {numbers : Answer} (guard : Guard) (x : T) → numbers ≡ told_as accepted call → call ≡ answer guard (Ok x) Err
     → numbers ≡ answer guard (accepted x) refused_as
-told accepted e f = e ∙ ap (told_as accepted) f ∙ answer_as (told_as accepted) _ _ _
+told accepted guard x e f = e ∙ ap (told_as accepted) f ∙ answer_as (told_as accepted) guard (Ok x) Err
 
 -- of the check of a level sheet
 pub number_is : (c : Result Size Refusal) → (levels_as c).number ≡ number_in c

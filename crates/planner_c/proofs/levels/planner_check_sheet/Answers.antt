@@ -4,7 +4,7 @@ use Rattle.planner_c.proofs.Numbers.{told, number_is}
 use Rattle.planner_c.proofs.levels.planner_check_sheet.Goals as goal
 
 pub returns-clause-answer : goal.returns-clause-answer
-returns-clause-answer c = told _ c.from.ensures c.check_sheet.ensures.answer
+returns-clause-answer c = told _ _ _ c.from.ensures c.check_sheet.ensures.answer
 
 pub returns-clause-tells : goal.returns-clause-tells
 returns-clause-tells c =

@@ -4,4 +4,4 @@ use Rattle.planner_c.proofs.levels.planner_followers.Goals as goal
 
 pub returns : goal.returns
 unfolding followers_of
-returns c = let w = c.followers.ensures in (told _ c.from.ensures w.answer, w.marks)
+returns c = let w = c.followers.ensures in (told _ _ _ c.from.ensures w.answer, w.marks)
