@@ -8,11 +8,8 @@ use lib.ListN.{length, get_or, take}
 use lib.Seq.{length-take-le, get_or-take}
 use borrow.Author.Tests.{le-ltb, ltb-false}
 use Rattle.table.specs.Table.{vertices, check_of}
-use Rattle.table.specs.Guard.{answer, past, front}
+use Rattle.table.specs.Guard.{Guard, clear, refused_at, answer, past, front}
 use Rattle.table.specs.Rule.{Refusal}
-use Rattle.table.specs.Guard.{Guard}
-use Rattle.table.specs.Guard.{clear}
-use Rattle.std.specs.Prelude.{Ok, Err}
 use Rattle.table.proofs.Guards.{both-passed}
 use Rattle.table.proofs.Laws.{went_on, sound}
 use Rattle.pool.specs.Input.{graph_of, anchored_by, Admitted}
@@ -22,26 +19,25 @@ use Rattle.sheet.proofs.Lines.{sheet_length}
 use Rattle.sheet.proofs.Written.{written-front}
 use Rattle.rounds.specs.Rounds.{rounds_of}
 use Rattle.rounds.proofs.Playing.{rounds-length}
-use Rattle.std.specs.Prelude.{Option, Some, None}
-use Rattle.answer.specs.Answer.{size_of, beyond_of, room_of, asked_of, text_of, rounds_sheet, sheet_of_text, answer_of}
-use Rattle.answer.specs.declared.call.Answered.TheVariants.{Sheet, Err as SheetRefused}
+use Rattle.std.specs.Prelude.{Option, Some, None, Ok, Err}
+use Rattle.answer.specs.Answer.{size_of, room_of, asked_of, text_of, rounds_sheet, sheet_of_text, answer_of}
 
 module _ (t : List ℕ) (room : ℕ) where
   -- the answer is a refusal only where the guard is
-  pub refused-answer : {x : Refusal} → answer_of t room ≡ SheetRefused x → text_of t room ≡ Err x
+  pub refused-answer : {x : Refusal} → answer_of t room ≡ Err x → text_of t room ≡ Err x
   unfolding answer_of answer
   refused-answer {x} e = by_guard (text_of t room) e
     where
-      by_guard : (guard : Guard) → answer guard (Sheet (length (sheet_of_text t))) SheetRefused ≡ SheetRefused x → guard ≡ Err x
+      by_guard : (guard : Guard) → answer guard (Ok (length (sheet_of_text t))) Err ≡ Err x → guard ≡ Err x
       by_guard (Ok tt) e = let z : ◌≡◌ {A = ℕ} 0 1 = cc in absurd (omega arith)
       by_guard (Err y) e = let same : y ≡ x = cc in ap Err same
 
   -- a sheet is answered only where nothing is refused, and with its length
-  pub sheet_answer : {size : ℕ} → answer_of t room ≡ Sheet size → (text_of t room ≡ clear) × (length (sheet_of_text t) ≡ size)
+  pub sheet_answer : {size : ℕ} → answer_of t room ≡ Ok size → (text_of t room ≡ clear) × (length (sheet_of_text t) ≡ size)
   unfolding answer_of answer
   sheet_answer {size} e = by_guard (text_of t room) e
     where
-      by_guard : (guard : Guard) → answer guard (Sheet (length (sheet_of_text t))) SheetRefused ≡ Sheet size → (guard ≡ clear) × (length (sheet_of_text t) ≡ size)
+      by_guard : (guard : Guard) → answer guard (Ok (length (sheet_of_text t))) Err ≡ Ok size → (guard ≡ clear) × (length (sheet_of_text t) ≡ size)
       by_guard (Ok tt) e = (refl, cc)
       by_guard (Err y) e = let z : ◌≡◌ {A = ℕ} 0 1 = cc in absurd (omega arith)
 
@@ -80,7 +76,7 @@ granted asked s l room e =
       within = none_beyond asked.beyond short.1;
     }
   where
-    none_beyond : (b : Option ℕ) → beyond_of b ≡ clear → b ≡ None
+    none_beyond : (b : Option ℕ) → refused_at 15 b ≡ clear → b ≡ None
     none_beyond (Some w) e = absurd (let z : ◌≡◌ {A = ℕ} 0 1 = cc in omega arith)
     none_beyond None e = refl
 

@@ -12,18 +12,14 @@ use borrow.Author.Tests.{le-ltb, ne_eqb, eq-eqb}
 use Rattle.finite.specs.Search.{any, member, first, NoneBelow}
 use Rattle.finite.proofs.Tests.{and_l, and_r, or-e, split, true_of, false_of, neqb}
 use Rattle.table.specs.Table.{vertices, bad_start, wrong_end, wrong_step, beyond, looped, unsorted, unreturned, check_of}
-use Rattle.table.specs.Guard.{refused, refuse, answer, past}
+use Rattle.table.specs.Guard.{Guard, clear, refused, refused_at, refuse, answer, past}
 use Rattle.table.specs.Rule.{Refusal}
-use Rattle.table.specs.Guard.{Guard}
-use Rattle.table.specs.Guard.{clear}
-use Rattle.std.specs.Prelude.{Ok, Err}
 use Rattle.table.proofs.Laws.{pass}
 use Rattle.text.specs.Text.{reading_of, starts_read, links_read, rider_lines_read}
 use Rattle.text.specs.declared.read.Summary.{Summary}
 use Rattle.std.specs.Prelude.{Option, Some, None, Result, Ok, Err}
 use Rattle.text.proofs.Arrays.{table-read}
-use Rattle.answer.specs.Answer.{beyond_of, room_of, size_of, asked_of, text_of, answer_of}
-use Rattle.answer.specs.declared.call.Answered.TheVariants.{Err as SheetRefused}
+use Rattle.answer.specs.Answer.{room_of, size_of, asked_of, text_of, answer_of}
 use Rattle.answer.proofs.Answers.{refused-answer}
 
 -- 17, 18, then 2, 3, 5, 6, 7, 8, 11, 12, 15
@@ -104,7 +100,7 @@ module _ (x : Refusal) (room : ℕ) where
       e₁ (λ t e₂.
       late asked.beyond e₂))
     where
-      late : (b : Option ℕ) → beyond_of b ≡ Err x → Listed
+      late : (b : Option ℕ) → refused_at 15 b ≡ Err x → Listed
       late (Some beyond) e = told 15 beyond tt e
       late None e = passed-not e
 
@@ -125,17 +121,17 @@ module _ (x : Refusal) (room : ℕ) where
   unfolding text_of any
   text_listed t e = next (ltb 65536 (length t)) 17 0 _ (λ s. tt) e (λ s. go (reading_of t) refl)
     where
-      go : (c : Result Summary ℕ) → reading_of t ≡ c → (elim c [ Ok asked ↦ asked_of asked (starts_read t) (links_read t) room | Err line ↦ refused 18 line ]) ≡ Err x → Listed
+      go : (c : Result Summary ℕ) → reading_of t ≡ c → ◌≡◌ {A = Guard} (elim c [ Ok asked ↦ asked_of asked (starts_read t) (links_read t) room | Err line ↦ refused 18 line ]) (Err x) → Listed
       go (Ok asked) q e = asked-listed asked (starts_read t) (links_read t) (omega (arith, (table-read t asked q).count)) (starts_good t q) e
       go (Err line) q e = told 18 line tt e
 
 module _ {x : Refusal} (t : List ℕ) (room : ℕ) where
   -- no other number: never 1, 4, 9, 10, 13, 14, 16, 19, 20 or 21
-  pub refused-listed : answer_of t room ≡ SheetRefused x → T (of_texts x.number)
+  pub refused-listed : answer_of t room ≡ Err x → T (of_texts x.number)
   refused-listed e = and_l (of_texts x.number) _ (text_listed x room t (refused-answer t room e))
 
   -- with room for 64,320 bytes no text is refused with 12
-  pub room-enough : 64320 ≤ room → answer_of t room ≡ SheetRefused x → x.number ≡ 12 → ⊥
+  pub room-enough : 64320 ≤ room → answer_of t room ≡ Err x → x.number ≡ 12 → ⊥
   room-enough h e q = or-e (not (eqb x.number 12)) _ (and_r (of_texts x.number) _ (text_listed x room t (refused-answer t room e)))
       (λ s. neqb x.number 12 s q)
       (λ s. absurd (omega (arith, ltb→lt room 64320 s)))

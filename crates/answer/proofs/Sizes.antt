@@ -9,8 +9,7 @@ use lib.ListN.{length}
 use lib.Dec.{ltb}
 use Rattle.finite.specs.Search.{member}
 use Rattle.table.specs.Table.{vertices}
-use Rattle.table.specs.Guard.{refused}
-use Rattle.table.specs.Guard.{clear}
+use Rattle.table.specs.Guard.{clear, refused}
 use Rattle.table.proofs.Laws.{went_on}
 use Rattle.pool.specs.Input.{graph_of}
 use Rattle.text.specs.Text.{reading_of, starts_read, links_read, retained_read}
@@ -21,7 +20,6 @@ use Rattle.sheet.proofs.Lines.{sheet_length}
 use Rattle.rounds.specs.Rounds.{rounds_of}
 use Rattle.rounds.proofs.Playing.{rounds-length}
 use Rattle.answer.specs.Answer.{size_of, asked_of, text_of, answer_of, rounds_asked, sheet_of_text}
-use Rattle.answer.specs.declared.call.Answered.TheVariants.{Sheet}
 use Rattle.answer.proofs.Answers.{Granted, granted, sheet_answer}
 use Rattle.answer.proofs.Texts.{rounds-read}
 
@@ -53,7 +51,7 @@ text_granted t room e = whole (reading_of t) refl (went_on (ltb 65536 (length t)
     whole (Ok asked) q e = (asked, q, granted asked (starts_read t) (links_read t) room e)
     whole (Err line) q e = let z : ◌≡◌ {A = ℕ} 0 1 = cc in absurd (omega arith)
 
-module _ (t : List ℕ) (room : ℕ) {size : ℕ} (e : answer_of t room ≡ Sheet size) where
+module _ (t : List ℕ) (room : ℕ) {size : ℕ} (e : answer_of t room ≡ Ok size) where
   -- the length answered is the sheet's
   pub length_answered : length (sheet_of_text t) ≡ size
   length_answered = (sheet_answer t room e).1

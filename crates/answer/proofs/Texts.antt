@@ -18,7 +18,7 @@ use Rattle.pool.specs.Input.{anchored_by}
 use Rattle.lines.specs.List.{anchor, first_beyond}
 use Rattle.text.specs.Text.{reading_of, rider_lines_read, starts_read, links_read, retained_read}
 use Rattle.text.specs.declared.read.Summary.{Summary}
-use Rattle.std.specs.Prelude.{Some, None, Ok, Err}
+use Rattle.std.specs.Prelude.{None, Ok, Err}
 use Rattle.text.proofs.Accepted.{accepted}
 use Rattle.text.proofs.Arrays.{riders-count, starts-lent, links-lent, length-anchor, anchored-lent, beyond-none}
 use Rattle.table.proofs.Guards.{accepted-as}

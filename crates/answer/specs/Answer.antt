@@ -1,33 +1,25 @@
 -- Document 01, "Rounds and the answer sheet" and "Who can cause a refusal": the text-to-sheet call.
-use Rattle.std.specs.Prelude.{Bool, cond, List, ℕ, ◌+◌, ◌*◌, length, ltb, Option, Some, None, Ok, Err}
+use Rattle.std.specs.Prelude.{Bool, cond, List, ℕ, ◌+◌, ◌*◌, length, ltb, Result, Ok, Err}
 use Rattle.finite.specs.Search.{member}
 use Rattle.table.specs.Table.{vertices, check_of}
-use Rattle.table.specs.Guard.{refused, answer, past}
-use Rattle.table.specs.Guard.{Guard}
-use Rattle.table.specs.Guard.{clear}
+use Rattle.table.specs.Rule.{Refusal}
+use Rattle.table.specs.Guard.{Guard, refused, refused_at, answer, past}
 use Rattle.pool.specs.Input.{graph_of}
 use Rattle.text.specs.Text.{reading_of, starts_read, links_read, retained_read}
 use Rattle.text.specs.declared.read.Summary.{Summary}
 use Rattle.sheet.specs.Line.{sheet_of, refused_line}
 use Rattle.rounds.specs.Rounds.{rounds_of}
-use Rattle.answer.specs.declared.call.Answered.{Answered}
-use Rattle.answer.specs.declared.call.Answered.TheVariants.{Sheet, Err}
 
 -- the bytes of a sheet: 48 and one a vertex in each line
 abbrev pub size_of : Summary → ℕ
 size_of asked = asked.rounds * (48 + asked.riders)
-
--- 15 for a retained number of n or more
-abbrev pub beyond_of : Option ℕ → Guard
-beyond_of (Some beyond) = refused 15 beyond
-beyond_of None = clear
 
 -- 11 for more than 60 rounds, 12 for less room than the sheet needs, 15 for a retained number of n or more
 abbrev pub room_of : Summary → ℕ → Guard
 room_of asked room =
     cond (ltb 60 asked.rounds) (refused 11 0)
     (cond (ltb room (size_of asked)) (refused 12 0)
-    (beyond_of asked.beyond))
+    (refused_at 15 asked.beyond))
 
 -- 2 and 3 for the numbers of vertices and links read, 5 to 8 for the table, then the rest
 unfoldable pub asked_of : Summary → List ℕ → List ℕ → ℕ → Guard
@@ -59,10 +51,10 @@ unfoldable pub sheet_of_text : List ℕ → List ℕ
 sheet_of_text t = rounds_sheet (starts_read t) (links_read t) (λ v. member v (retained_read t)) (rounds_asked t)
 
 -- the answer of the call: the length of the sheet, or the refusal
-unfoldable pub answer_of : List ℕ → ℕ → Answered
-answer_of t room = answer (text_of t room) (Sheet (length (sheet_of_text t))) Err
+unfoldable pub answer_of : List ℕ → ℕ → Result ℕ Refusal
+answer_of t room = answer (text_of t room) (Ok (length (sheet_of_text t))) Err
 
 -- what the program prints for an answer: the sheet, or the line of the refusal
-abbrev pub printed : Answered → List ℕ → List ℕ
-printed (Sheet size) sheet = sheet
+abbrev pub printed : Result ℕ Refusal → List ℕ → List ℕ
+printed (Ok size) sheet = sheet
 printed (Err x) sheet = refused_line x.number x.place

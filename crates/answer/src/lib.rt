@@ -3,4 +3,4 @@
 
 pub mod call; // the call
 
-pub use call::{Answered, text_to_sheet};
+pub use call::text_to_sheet;

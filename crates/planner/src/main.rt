@@ -13,11 +13,10 @@ fn print(text: &[u8], out: &mut [u8]) -> usize
     ensures counts { (result ≤ length out.new) × (result ≡ length (take result out.new)) }
     ensures printed { take result out.new ≡ printed (answer_of text.now (length out.old)) (sheet_of_text text.now) }
 {
-    let answer = answer::text_to_sheet(text, out);
-    match answer {
-        answer::Answered::Sheet(size) => size,
-        answer::Answered::Refused(refusal) => {
-            sheet::line::put_refused(out, refusal.number as usize, refusal.place)
+    match answer::text_to_sheet(text, out) {
+        Ok(size) => size,
+        Err(refusal) => {
+            sheet::line::put_refused(out, refusal.number() as usize, refusal.place())
         }
     }
 }

@@ -6,17 +6,8 @@
 ghost use Rattle.std.specs.Prelude.{◌≤◌, length};
 
 use cases::print::{Row, sound};
-use session::run::Ran;
 use std::io;
-use table::Refusal;
-use table::size::Size;
-
-fn ran(answer: Ran) -> Result<Size, Refusal> {
-    match answer {
-        Ran::Served(size) => Ok(size),
-        Ran::Refused(refusal) => Err(refusal),
-    }
-}
+use table::{Refusal, Size};
 
 // A session's table, the anchored bytes that it is given, and its events.
 #[derive(Drop)]
@@ -104,7 +95,7 @@ fn serve(
         &mut record.lifted[..m],
         &mut record.redone[..m],
     );
-    (ran(answer), record)
+    (answer, record)
 }
 
 // Prints the events, then the answer, and the record and the table as they are afterwards.
