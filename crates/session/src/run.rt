@@ -132,7 +132,7 @@ fn admit(
 }
 
 // A session: the table and the record after the last event, and the three numbers of each; a refusal leaves the table and the slices as they
-// are. `claim` is demand 3 of document 01.
+// are. `claim` is demand 3 of document 01. The slices stay apart, as C lends them.
 pub fn run(
     starts: &mut [u16],
     links: &mut [u16],
