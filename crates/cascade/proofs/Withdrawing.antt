@@ -218,7 +218,7 @@ module _ {s l a levels : List ℕ} (h : Leveled s l a levels) (x : ℕ) where
         omega (arith, enough-last w b f o, k.kept w b f o, beside, left_is h x (λ p. member p (take end queue)) w b (free_of A x w f), h.hold w b))
         (λ v b t. (k.down v (member-e v (take end queue) t)).1)
 
-    kept-tells : (v : ℕ) → v < vertices s → fell_by levels support v ≡ fall_mark G A x v
+    pub kept-tells : (v : ℕ) → v < vertices s → fell_by levels support v ≡ fall_mark G A x v
     unfolding fell_by fall_mark falls
     kept-tells v b = ap bit (split (adding A x v)
         (λ t.

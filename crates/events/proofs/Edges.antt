@@ -199,10 +199,3 @@ module _ {s l : List ℕ} {kept : Record} (table : Tabled s l (graph_of s l)) (r
   pub edge-refused : (adding : Bool) (a b : ℕ) (status : ℕ) → status ≡ edge_status (graph_of s l) (edge_event adding a b) → (status ≡ 0 → ⊥)
       → Turned s l position (edge_event adding a b) kept s l (refusing kept status)
   edge-refused adding a b status z n = refused_turned (edge_event adding a b) status ((edge-status R adding a b).0 ∙ sym z) n
-
--- of an event, or of what is left, by another name
-pub turned_event : {s l s' l' : List ℕ} {position : ℕ} {kept : Record} {left : Stepped} {e f : Event} → e ≡ f → Turned s l position e kept s' l' left → Turned s l position f kept s' l' left
-turned_event {s} {l} {s'} {l'} {position} {kept} {left} = subst (λ f. Turned s l position f kept s' l' left)
-
-pub turned_left : {s l s' l' : List ℕ} {position : ℕ} {kept : Record} {e : Event} {left other : Stepped} → left ≡ other → Turned s l position e kept s' l' other → Turned s l position e kept s' l' left
-turned_left {s} {l} {s'} {l'} {position} {kept} {e} same = subst (Turned s l position e kept s' l') (sym same)

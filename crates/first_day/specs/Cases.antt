@@ -10,7 +10,7 @@ use Rattle.first_day.specs.Answers.{lists_of}
 abbrev many : ℕ → Guard
 many m = lists_of 4 (replicate m 0) (replicate m 1) (replicate m 2) 3
 
--- Passed: two terms that meet, none, 256. 9: either list shorter or longer, before 15. 15: the first by position, not the lowest; x after the
+-- Clear: two terms that meet, none, 256. 9: either list shorter or longer, before 15. 15: the first by position, not the lowest; x after the
 -- terms; a vertex behind position 256, before 24. 24: 257, also where one ends before it starts. 25: the first by position; an end on the
 -- first day; no day is after 65,535.
 pub refusals :

@@ -15,7 +15,7 @@ asked house quotas = members_of 4 (replicate 4 0) house quotas 3120
 abbrev one : List ℕ
 one = replicate 4 0
 
--- Passed: one house, 16, quotas of 0, 60 lines, none. 9: bytes or houses short or long, before 10. 10 before 11. 11: 61 lines, a sum beyond 16
+-- Clear: one house, 16, quotas of 0, 60 lines, none. 9: bytes or houses short or long, before 10. 10 before 11. 11: 61 lines, a sum beyond 16
 -- bits, before 26. 26: no house, 17, before 27. 27: the lowest vertex, at the number of houses, before 12. 12: one byte short.
 pub refusals :
     ◌≡◌ {A = List Guard}

@@ -8,12 +8,8 @@ use lib.Seq.{get_or-set_same, get_or-set_other}
 use lib.Dec.{eqb, eqb→eq}
 use Rattle.finite.specs.Count.{tabulate}
 use Rattle.finite.proofs.Tests.{split, neqb}
-use Rattle.finite.proofs.Count.{tabulate_cong, tabulate-take}
+use Rattle.finite.proofs.Count.{tabulate-take}
 use Rattle.pool.specs.Arrays.{Holds}
-
--- a loop that stores f 0, f 1, ..: nothing stored, one more stored
-pub holds-none : (xs : List ℕ) (f : ℕ → ℕ) → Holds xs 0 f
-holds-none xs f v h = absurd (omega arith)
 
 pub holds_more : (xs : List ℕ) (f : ℕ → ℕ) (i : ℕ) → i < length xs → Holds xs i f → Holds (set xs i (f i)) (i + 1) f
 holds_more xs f i h all v b = split (eqb v i)
@@ -24,10 +20,6 @@ holds_more xs f i h all v b = split (eqb v i)
 pub filled_holds : (xs : List ℕ) (m x n : ℕ) → xs ≡ replicate m x → n ≤ m → Holds xs n (λ v. x)
 filled_holds xs m x n e h v b = ap (λ ys. get_or ys v 0) e ∙ get_or-replicate m v x 0 (omega arith)
 
--- a copy of the first n places of an array that holds f
-pub copied : (f : ℕ → ℕ) (from : List ℕ) {to : List ℕ} {m n : ℕ} → m ≡ n → Holds from n f → to ≡ tabulate (λ v. get_or from v 0) m → to ≡ tabulate f n
-copied f from {n = n} long holds e = e ∙ ap (tabulate (λ v. get_or from v 0)) long ∙ tabulate_cong (λ v. get_or from v 0) f n holds
-
--- the same, as `copy` leaves it
+-- a copy of the first n places of an array that holds f, as `copy` leaves it
 pub copied-front : (f : ℕ → ℕ) (from : List ℕ) {to : List ℕ} {m n : ℕ} → m ≡ n → n ≤ length from → Holds from n f → to ≡ take m from → to ≡ tabulate f n
 copied-front f from {n = n} long within holds e = e ∙ ap (λ k. take k from) long ∙ tabulate-take f from n within holds

@@ -9,9 +9,7 @@ use lib.Dec.{ltb, eqb}
 use Rattle.finite.specs.Search.{first}
 use Rattle.table.specs.Table.{vertices, bad_start, beyond, looped, unsorted, unreturned, check_of}
 use Rattle.table.specs.Guard.{refused, number_of, refuse, answer, past}
-use Rattle.table.specs.Rule.{Refusal, rule_number}
-use Rattle.table.specs.declared.refusal.Rule.{Rule}
-use Rattle.table.specs.declared.refusal.Rule.TheVariants.{NoStarts, ManyVertices, ManyLinks, Starts, Beyond, Loop, Unsorted, Unreturned, Length, Byte, TooMany, Lent, SheetLength, Misplaced, NoVertex, Anchored, LongText, Departs, TooHigh, TooLow, TooLate, Edge, Full, ManyTerms, EmptyTerm, Houses, NoHouse}
+use Rattle.table.specs.Rule.{Refusal}
 use Rattle.table.specs.Guard.{Guard}
 use Rattle.table.specs.Guard.{clear}
 use Rattle.std.specs.Prelude.{Ok, Err}
@@ -63,33 +61,3 @@ module _ (low high : ℕ) where
 pub zero-sound : (guard : Guard) (high : ℕ) → Between 1 high guard → number_of guard ≡ 0 → guard ≡ clear
 zero-sound (Ok tt) high range e = refl
 zero-sound (Err r) high range e = absurd (omega (arith, (range r refl).0))
-
--- the number of a rule is one of 1 to 27
-pub rule_small : (rule : Rule) → rule_number rule ≤ 27
-rule_small NoStarts = omega arith
-rule_small ManyVertices = omega arith
-rule_small ManyLinks = omega arith
-rule_small Starts = omega arith
-rule_small Beyond = omega arith
-rule_small Loop = omega arith
-rule_small Unsorted = omega arith
-rule_small Unreturned = omega arith
-rule_small Length = omega arith
-rule_small Byte = omega arith
-rule_small TooMany = omega arith
-rule_small Lent = omega arith
-rule_small SheetLength = omega arith
-rule_small Misplaced = omega arith
-rule_small NoVertex = omega arith
-rule_small Anchored = omega arith
-rule_small LongText = omega arith
-rule_small Departs = omega arith
-rule_small TooHigh = omega arith
-rule_small TooLow = omega arith
-rule_small TooLate = omega arith
-rule_small Edge = omega arith
-rule_small Full = omega arith
-rule_small ManyTerms = omega arith
-rule_small EmptyTerm = omega arith
-rule_small Houses = omega arith
-rule_small NoHouse = omega arith

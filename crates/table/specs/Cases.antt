@@ -13,7 +13,7 @@ use Rattle.table.specs.Guard.{clear}
 abbrev chain : List ℕ
 chain = 0 ∷ 1 ∷ 3 ∷ 5 ∷ 6 ∷ []
 
--- Passed: a chain, a star, no vertices. 4: start 0 not 0, a start below the one before, the last not the number of links.
+-- Clear: a chain, a star, no vertices. 4: start 0 not 0, a start below the one before, the last not the number of links.
 -- 7: a fall, an equal pair. 6 at 3: the lowest number comes first, though vertex 0 breaks 7. 8: the place is the vertex, not the neighbor.
 answers :
     ◌≡◌ {A = List Guard}

@@ -8,7 +8,7 @@ use std::fmt;
 use std::marker::Model;
 
 // The rules of the operations; the discriminant is document 01's number.
-#[derive(Clone, Copy, Debug, PartialEq, Eq, PartialOrd, Ord)]
+#[derive(Clone, Copy, Debug, PartialEq, Eq)]
 pub enum Rule {
     NoStarts = 1,
     ManyVertices = 2,

@@ -1,7 +1,7 @@
 // Vertices anchored by term: the first day of a span on which a level is under k.
 #![tactic(auto)]
 
-ghost use Rattle.std.specs.Prelude.{◌≡◌, cond, ◌&&◌, ◌<◌, length, ltb};
+ghost use Rattle.std.specs.Prelude.{◌≡◌, ◌&&◌, ◌<◌, length, ltb};
 ghost use Rattle.table.specs.Table.{vertices as vertices_in, SoundTable};
 ghost use Rattle.anchored.specs.Core.{level as level_of};
 ghost use Rattle.anchored.specs.Terms.{terms, next_end, runs as runs_of, first_under};
