@@ -2,6 +2,7 @@
 use mathlib.Core.Path.{◌≡◌, refl, ap}
 use mathlib.Core.List.{List}
 use Prim.Native.Nat.{ℕ, ◌+◌, ◌*◌, ◌≤◌, ◌<◌}
+use native.Mathlib.Nat.{mul-le-mul_right}
 use native.Mathlib.Omega.{arith}
 use lib.ListN.{length, get_or, take}
 use lib.Seq.{length-take-le, get_or-take}
@@ -39,6 +40,10 @@ module _ (t : List ℕ) (room : ℕ) where
       by_guard : (guard : Guard) → answer guard (Ok (length (sheet_of_text t))) Err ≡ Ok size → (guard ≡ clear) × (length (sheet_of_text t) ≡ size)
       by_guard (Ok tt) e = (refl, cc)
       by_guard (Err y) e = let z : ◌≡◌ {A = ℕ} 0 1 = cc in absurd (omega arith)
+
+-- the size of a sheet of at most 60 rounds is no great number
+pub size_small : (rounds n : ℕ) → rounds ≤ 60 → n < 65536 → rounds * (48 + n) < 4000000
+size_small rounds n few small = omega (arith, mul-le-mul_right (48 + n) few)
 
 -- past 2 and 3 the table decides, and then the room
 pub asked_tabled : (asked : Summary) (s l : List ℕ) (room : ℕ) → asked.riders ≤ 1024 → asked.links ≤ 16384 → asked_of asked s l room ≡ past (check_of s l) (room_of asked room)

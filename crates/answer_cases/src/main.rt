@@ -6,10 +6,10 @@ use answer::text_to_sheet;
 use cases::Extent;
 use cases::read::Case;
 use std::io;
+use table::Refusal;
 
 // Prints `NAME: sheet of SIZE bytes` or `NAME: refused NUMBER PLACE`.
-fn run(rt: &impl Print, name: &[u8], text: &[u8], sheet: &mut [u8]) -> io::Result<()> {
-    let answer = text_to_sheet(text, sheet);
+fn show(rt: &impl Print, name: &[u8], answer: Result<usize, Refusal>) -> io::Result<()> {
     rt.write_all(name)?;
     print!(rt; ":")?;
     cases::print::answer(rt, answer, |size| println!(rt; " sheet of {size} bytes"))
@@ -19,7 +19,8 @@ fn run(rt: &impl Print, name: &[u8], text: &[u8], sheet: &mut [u8]) -> io::Resul
 fn run_case(rt: &impl Print, case: &Case<'_>) -> io::Result<()> {
     let mut sheet = [0u8; 64320];
     let room = sheet.len().min(case.number(1) as usize);
-    run(rt, case.field(0), case.field(2), &mut sheet[..room])
+    let answer = text_to_sheet(case.field(2), &mut sheet[..room]);
+    show(rt, case.field(0), answer)
 }
 
 fn main(rt: HostRuntime) -> io::Result<()> {
@@ -29,5 +30,6 @@ fn main(rt: HostRuntime) -> io::Result<()> {
         cases: 15,
     };
     cases::run(&rt, cases, |case| run_case(&rt, case))?;
-    run(&rt, b"65,537 bytes", &[b'x'; 65537], &mut [0; 48])
+    let answer = text_to_sheet(&[b'x'; 65537], &mut [0; 48]);
+    show(&rt, b"65,537 bytes", answer)
 }

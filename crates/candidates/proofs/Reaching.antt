@@ -8,7 +8,7 @@ use native.Mathlib.Nat.{eq-or-lt_of_le}
 use native.Mathlib.Numerals.{add-one}
 use native.Mathlib.Omega.{arith}
 use lib.ListN.{length, take, get_or, set, replicate, length-append, length-set, length-replicate, get_or-append}
-use lib.Seq.{length-take-le, take-suc, take-suc-set, get_or-take, get_or-set_same, get_or-set_other}
+use lib.Seq.{length-take-le, take-suc, take-suc-set, take_all, get_or-take, get_or-set_same, get_or-set_other}
 use lib.Dec.{T, eqb, T_not, not_T, eqb→eq}
 use Rattle.finite.specs.Count.{In}
 use Rattle.finite.specs.Search.{member}
@@ -77,7 +77,7 @@ module _ (p : ℕ → Bool) where
   visit_all-append q [] m = refl
   visit_all-append q (w ∷ ws) m = visit_all-append (visit p q w) ws m
 
-  -- a loop over the list: none visited, one more visited
+  -- a loop over the list: none visited, one more visited, all visited
   pub visit_all-start : (q l : List ℕ) → visit_all p q (take 0 l) ≡ q
   unfolding visit_all
   visit_all-start q l = refl
@@ -85,6 +85,9 @@ module _ (p : ℕ → Bool) where
   visit_all-more : (q l : List ℕ) (i : ℕ) → i < length l → visit_all p q (take (i + 1) l) ≡ visit p (visit_all p q (take i l)) (get_or l i 0)
   unfolding visit_all
   visit_all-more q l i h = rw (add-one, take-suc l i 0) (visit_all-append q (take i l) (get_or l i 0 ∷ []))
+
+  pub visit_all-end : (q l : List ℕ) (i : ℕ) → length l ≤ i → visit_all p q (take i l) ≡ visit_all p q l
+  visit_all-end q l i h = ap (visit_all p q) (take_all i l h)
 
   visit_all_keeps : (q l : List ℕ) (v : ℕ) → In v q → In v (visit_all p q l)
   unfolding visit_all

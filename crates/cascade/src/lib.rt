@@ -114,10 +114,12 @@ fn count_holders(starts: &[u16], links: &[u16], levels: &[u16], w: usize) -> u16
     requires w_bound { w < vertices starts.now }
     ensures { result ≡ count (upholds levels.now w) (neighbors_of starts.now links.now w) }
 {
-    let part = table::neighbors(starts, links, w);
-    part.iter()
-        .filter(|p| !is_higher(levels, w, **p as usize))
-        .count() as u16
+    // added up and not filtered: there is no branch on what a comparison says, which is hard to foresee
+    let mut total: u16 = 0;
+    for p in table::neighbors(starts, links, w) {
+        total += !is_higher(levels, w, *p as usize) as u16;
+    }
+    total
 }
 
 // Keeps, for each vertex that loses a neighbor that held it, how many are left: less than its level for exactly those that fall with x.

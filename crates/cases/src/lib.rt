@@ -27,7 +27,7 @@ pub fn run<R: Input + AllocGlobal, F: FnMut(&Case<'_>) -> io::Result<()>>(
     let mut text = Vec::new(rt.alloc());
     rt.reader().take(extent.bytes).read_to_end(&mut text)?;
     for k in 0..extent.cases {
-        run(&Case::new(rt.alloc(), read::piece(&text, extent.mark, k)))?;
+        run(&Case::new(read::piece(&text, extent.mark, k)))?;
     }
     Ok(())
 }

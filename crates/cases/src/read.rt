@@ -1,31 +1,29 @@
 // A case: fields parted by colons. A field that is missing reads as an empty one.
-use std::alloc::Global;
-use std::io;
+ghost use Rattle.std.specs.Prelude.{◌≤◌, length};
 
-#[derive(Drop)]
+#[derive(Clone, Copy)]
 pub struct Case<'a> {
-    alloc: Global,
     text: &'a [u8],
 }
 
 // The table and the anchored bytes of a pool.
-#[derive(Drop)]
-pub struct Pool {
-    pub starts: Vec<u16>,
-    pub links: Vec<u16>,
-    pub anchored: Vec<u8>,
+#[derive(Clone, Copy)]
+pub struct Pool<'r> {
+    pub starts: &'r [u16],
+    pub links: &'r [u16],
+    pub anchored: &'r [u8],
 }
 
 // A sheet of levels and layers.
-#[derive(Drop)]
-pub struct Sheet {
-    pub levels: Vec<u16>,
-    pub layers: Vec<u16>,
+#[derive(Clone, Copy)]
+pub struct Sheet<'r> {
+    pub levels: &'r [u16],
+    pub layers: &'r [u16],
 }
 
 impl<'a> Case<'a> {
-    pub fn new(alloc: Global, text: &'a [u8]) -> Case<'a> {
-        Case { alloc, text }
+    pub fn new(text: &'a [u8]) -> Case<'a> {
+        Case { text }
     }
 
     pub fn field(&self, k: usize) -> &'a [u8] {
@@ -37,51 +35,61 @@ impl<'a> Case<'a> {
         value(self.field(k))
     }
 
-    // The numbers of a field, each behind a space, but at most so many.
-    pub fn numbers(&self, k: usize, most: usize) -> io::Result<Vec<u16>> {
-        self.list(k, most, value)
+    // The numbers of a field, each behind a space, as many as there is room for, in its front.
+    pub fn numbers<'r>(&self, k: usize, room: &'r mut [u16]) -> &'r mut [u16]
+        ensures { length result.now ≤ length room.old }
+    {
+        self.list(k, room, value)
     }
 
     // The same, where each number is a byte.
-    pub fn bytes(&self, k: usize, most: usize) -> io::Result<Vec<u8>> {
-        self.list(k, most, byte)
+    pub fn bytes<'r>(&self, k: usize, room: &'r mut [u8]) -> &'r mut [u8]
+        ensures { length result.now ≤ length room.old }
+    {
+        self.list(k, room, byte)
     }
 
     // A number is behind each space of a field; the first that has no digits ends them.
-    fn list<T: Drop, F: Fn(&[u8]) -> T>(
+    fn list<'r, T: Drop, F: Fn(&[u8]) -> T>(
         &self,
         k: usize,
-        most: usize,
+        room: &'r mut [T],
         number: F,
-    ) -> io::Result<Vec<T>>
+    ) -> &'r mut [T]
         requires { F.IsAlwaysCallable number }
+        ensures { length result.now ≤ length room.old }
     {
-        let numbers = self
-            .field(k)
-            .split(|byte| *byte == b' ')
-            .skip(1)
-            .take(most)
-            .take_while(|digits| !digits.is_empty())
-            .map(|digits| number(digits))
-            .collect(self.alloc)?;
-        Ok(numbers)
+        let mut pieces = self.field(k).split(|byte| *byte == b' ').skip(1);
+        for count in 0..room.len() {
+            let digits = pieces.next().unwrap_or(b"");
+            if digits.is_empty() {
+                return &mut room[..count];
+            }
+            room[count] = number(digits);
+        }
+        room
     }
 
-    // Fields 1 to 3, of each at most so many numbers.
-    pub fn pool(&self, starts: usize, links: usize, anchored: usize) -> io::Result<Pool> {
-        Ok(Pool {
-            starts: self.numbers(1, starts)?,
-            links: self.numbers(2, links)?,
-            anchored: self.bytes(3, anchored)?,
-        })
+    // Fields 1 to 3, each in a room of its own.
+    pub fn pool<'r>(
+        &self,
+        starts: &'r mut [u16],
+        links: &'r mut [u16],
+        anchored: &'r mut [u8],
+    ) -> Pool<'r> {
+        Pool {
+            starts: self.numbers(1, starts),
+            links: self.numbers(2, links),
+            anchored: self.bytes(3, anchored),
+        }
     }
 
     // Fields 4 and 5 likewise.
-    pub fn sheet(&self, levels: usize, layers: usize) -> io::Result<Sheet> {
-        Ok(Sheet {
-            levels: self.numbers(4, levels)?,
-            layers: self.numbers(5, layers)?,
-        })
+    pub fn sheet<'r>(&self, levels: &'r mut [u16], layers: &'r mut [u16]) -> Sheet<'r> {
+        Sheet {
+            levels: self.numbers(4, levels),
+            layers: self.numbers(5, layers),
+        }
     }
 }
 

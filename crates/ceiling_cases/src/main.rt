@@ -10,14 +10,16 @@ use ceiling::ceiling;
 use std::io;
 
 fn run_case(rt: &impl Print, case: &Case<'_>) -> io::Result<()> {
-    let pool = case.pool(6, 12, 5)?;
-    let sheet = case.sheet(5, 5)?;
+    let (mut starts, mut links, mut anchored) = ([0; 6], [0; 12], [0; 5]);
+    let pool = case.pool(&mut starts, &mut links, &mut anchored);
+    let (mut levels, mut layers) = ([0; 5], [0; 5]);
+    let sheet = case.sheet(&mut levels, &mut layers);
     let bound = ceiling(
-        &pool.starts,
-        &pool.links,
-        &pool.anchored,
-        &sheet.levels,
-        &sheet.layers,
+        pool.starts,
+        pool.links,
+        pool.anchored,
+        sheet.levels,
+        sheet.layers,
         case.number(6) as usize,
     );
     rt.write_all(case.field(0))?;

@@ -50,17 +50,17 @@ fn mark_rows(
 }
 
 // The record for a table in which the edge between a and b is new or gone: the rows that it makes stale are counted afresh and stamped.
-fn renew(starts: &[u16], links: &[u16], kept: Record, a: usize, b: usize, position: u16) -> Stepped
-    requires admitted { Admitted starts.now links.now kept.anchored }
+fn renew(starts: &[u16], links: &[u16], kept: &Record, a: usize, b: usize, position: u16) -> Stepped
+    requires admitted { Admitted starts.now links.now kept.now.anchored }
     requires a_bound { a < vertices starts.now }
     requires b_bound { b < vertices starts.now }
-    ensures { Renews starts.now links.now a b position kept result }
+    ensures { Renews starts.now links.now a b position kept.now result }
 {
-    let mut next = kept;
+    let mut next = *kept;
     next.columns = records::afresh::refresh(starts, links, &kept.anchored);
     records::afresh::fill_bare(starts, links, &mut next.bare);
     let mut marks = [0; 1024];
-    mark_rows(starts, links, &kept, &next, a, b, &mut marks);
+    mark_rows(starts, links, kept, &next, a, b, &mut marks);
     let redone = step::redo(starts, links, &mut next, &marks, position);
     Stepped::accepted(next, 0, redone as u16)
 }
@@ -69,15 +69,15 @@ fn renew(starts: &[u16], links: &[u16], kept: Record, a: usize, b: usize, positi
 fn change_edge(
     starts: &mut [u16],
     links: &mut [u16],
-    kept: Record,
+    kept: &Record,
     change: Change,
     a: usize,
     b: usize,
     position: u16,
 ) -> Stepped
     requires tabled { Tabled starts.old links.old (graph_of starts.old links.old) }
-    requires right { Right starts.old links.old kept }
-    ensures { Turned starts.old links.old position (edge_event (is_adding change) a b) kept starts.new links.new result }
+    requires right { Right starts.old links.old kept.now }
+    ensures { Turned starts.old links.old position (edge_event (is_adding change) a b) kept.now starts.new links.new result }
 {
     if let Err(rule) = edit::status::edge_status(starts, links, change, a, b) {
         return Stepped::refused(kept, rule);
@@ -90,15 +90,15 @@ fn change_edge(
 pub fn turn(
     starts: &mut [u16],
     links: &mut [u16],
-    kept: Record,
+    kept: &Record,
     kind: u16,
     first: usize,
     second: usize,
     position: u16,
 ) -> Stepped
     requires tabled { Tabled starts.old links.old (graph_of starts.old links.old) }
-    requires right { Right starts.old links.old kept }
-    ensures { Turned starts.old links.old position (event_of kind first second) kept starts.new links.new result }
+    requires right { Right starts.old links.old kept.now }
+    ensures { Turned starts.old links.old position (event_of kind first second) kept.now starts.new links.new result }
 {
     match Kind::try_from(kind) {
         Ok(Kind::Anchor) => step::step(starts, links, kept, first, position),

@@ -10,21 +10,17 @@ use houses::share_rounds;
 use std::io;
 
 fn run_case(rt: &impl Print, case: &Case<'_>) -> io::Result<()> {
-    let pool = case.pool(6, 12, 6)?;
-    let house = case.numbers(4, 6)?;
-    let quotas = case.numbers(5, 20)?;
+    let (mut starts, mut links, mut anchored) = ([0; 6], [0; 12], [0; 6]);
+    let pool = case.pool(&mut starts, &mut links, &mut anchored);
+    let mut house = [0; 6];
+    let house = case.numbers(4, &mut house);
+    let mut quotas = [0; 20];
+    let quotas = case.numbers(5, &mut quotas);
     let mut bytes = [b'-'; 400];
     let Some(sheet) = bytes.get_mut(..case.number(6) as usize) else {
         return Ok(());
     };
-    let rounds = share_rounds(
-        &pool.starts,
-        &pool.links,
-        &pool.anchored,
-        &house,
-        &quotas,
-        sheet,
-    );
+    let rounds = share_rounds(pool.starts, pool.links, pool.anchored, house, quotas, sheet);
     rt.write_all(case.field(0))?;
     answer(
         rt,

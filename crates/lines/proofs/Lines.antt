@@ -51,6 +51,10 @@ module _ (number : ℕ) (form : ℕ → Form) (keeps : (v : ℕ) → number_of_f
       let line : record { number = number; form = form w } ≡ l = ap (λ (x : Line × ℕ). x.0) parts.0 in
       (rw (value, parts.1), ap (λ (x : Line). x.number) (sym line), ap (λ (x : Line). number_of_form x.form) (sym line) ∙ keeps w ∙ ap Some value)
 
+  pub form_departs : (m : Option (ℕ × ℕ)) → kept_form number form m ≡ None → m ≡ None
+  form_departs None q = refl
+  form_departs (Some (w, d)) q = absurd cc
+
 -- ---- the line of a rider
 
 abbrev pub rider_head : List ℕ

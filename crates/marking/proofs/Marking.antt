@@ -19,6 +19,13 @@ use Rattle.marking.specs.Marking.{vertex_of, guard_of_free, marking_of}
 use Rattle.level_sheet.proofs.Laws.{accepted}
 use Rattle.pool.proofs.Lengths.{passed}
 
+-- the byte of x decides
+pub free_refuses : (a : List ℕ) (x : ℕ) → get_or a x 0 ≡ 1 → guard_of_free a x ≡ refused 16 x
+free_refuses a x e = rw (eq-eqb (get_or a x 0) 1 e)
+
+pub free_passes : (a : List ℕ) (x : ℕ) → (get_or a x 0 ≡ 1 → ⊥) → guard_of_free a x ≡ clear
+free_passes a x f = rw (ne_eqb (get_or a x 0) 1 f)
+
 -- a vertex that is not refused has byte 0
 pub free-sound : {s l a : List ℕ} (x : ℕ) → Admitted s l a → x < vertices s → guard_of_free a x ≡ clear → get_or a x 0 ≡ 0
 free-sound {a = a} x given b e = free_byte given x b (of_false (anchored_by a x) (went_on (anchored_by a x) 16 x clear e).0)

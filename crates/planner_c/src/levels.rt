@@ -1,5 +1,5 @@
 // Levels, layers, components; the check of a sheet; the search, its ceiling; the collapse. `tells` is what the number that answers the check tells of the sheet.
-ghost use Rattle.std.specs.Prelude.{◌≡◌, [], ◌∷◌, map, length};
+ghost use Rattle.std.specs.Prelude.{◌≡◌, [], ◌∷◌, map, length, Ok, Err};
 ghost use Rattle.finite.specs.Count.{tabulate, count, below};
 ghost use Rattle.table.specs.Size.{size_of};
 ghost use Rattle.table.specs.Guard.{answer, held, front};
@@ -11,11 +11,12 @@ ghost use Rattle.pool.specs.Input.{graph_of, anchored_by};
 ghost use Rattle.level_sheet.specs.SheetCheck.{check_sheet_of, Tells};
 ghost use Rattle.marking.specs.Marking.{marking_of};
 ghost use Rattle.pool.specs.Lengths.{slices_of};
-ghost use Rattle.components.specs.Answers.{numbers_of, levels_of, sizes_of};
-ghost use Rattle.search.specs.Answers.{search_of, marks_of};
+ghost use Rattle.components.specs.Answers.{numbers_of, levels_of, sizes_of, list_of};
+ghost use Rattle.search.specs.Answers.{search_of, marks_of, followers_of};
 ghost use Rattle.ceiling.specs.Answers.{ceiling_of};
 ghost use Rattle.collapse.specs.Answers.{fall_marks_of};
 ghost use Rattle.numbers.specs.Numbers.{accepted_as, refused_as};
+ghost use Rattle.numbers.specs.Numbers.{worked_as, listed_as, levels_as, searched_as, bounded_as, collapsed_as};
 
 use numbers::Answer;
 
@@ -28,13 +29,15 @@ pub extern "C" fn planner_work(
     layers: &mut [u16],
     components: &mut [u16],
 ) -> Answer
-    ensures { let G = graph_of starts.now links.now in
+    ensures fact { let G = graph_of starts.now links.now in
         let A = anchored_by anchored.now in
         let guard = slices_of starts.now links.now anchored.now (map length (levels.old ∷ layers.old ∷ components.old ∷ [])) in
         (result ≡ answer guard (accepted_as 0 0 (size_of starts.now links.now)) refused_as)
         × (levels.new ≡ held guard (tabulate (level G A) G.size) levels.old)
         × (layers.new ≡ held guard (tabulate (layer G A) G.size) layers.old)
         × (components.new ≡ held guard (tabulate (component G A) G.size) components.old) }
+    ensures told { let guard = slices_of starts.now links.now anchored.now (map length (levels.old ∷ layers.old ∷ components.old ∷ [])) in
+        result ≡ worked_as (answer guard (Ok (size_of starts.now links.now)) Err) }
 {
     Answer::from(level::work::work(starts, links, anchored, levels, layers, components))
 }
@@ -48,12 +51,13 @@ pub extern "C" fn planner_list_components(
     sizes: &mut [u16],
     numbers: &mut [u16],
 ) -> Answer
-    ensures { let guard = slices_of starts.now links.now anchored.now (map length (levels.old ∷ sizes.old ∷ numbers.old ∷ [])) in
+    ensures fact { let guard = slices_of starts.now links.now anchored.now (map length (levels.old ∷ sizes.old ∷ numbers.old ∷ [])) in
         let G = graph_of starts.now links.now in
         (result ≡ answer guard (accepted_as (count (heads G (anchored_by anchored.now)) (below G.size)) 0 (size_of starts.now links.now)) refused_as)
         × (levels.new ≡ held guard (front (levels_of starts.now links.now anchored.now) levels.old) levels.old)
         × (sizes.new ≡ held guard (front (sizes_of starts.now links.now anchored.now) sizes.old) sizes.old)
         × (numbers.new ≡ held guard (front (numbers_of starts.now links.now anchored.now) numbers.old) numbers.old) }
+    ensures told { result ≡ listed_as (list_of starts.now links.now anchored.now (map length (levels.old ∷ sizes.old ∷ numbers.old ∷ []))) }
 {
     Answer::from(components::list_components(starts, links, anchored, levels, sizes, numbers))
 }
@@ -67,6 +71,7 @@ pub extern "C" fn planner_check_sheet(
     layers: &[u16],
 ) -> Answer
     ensures answer { result ≡ answer (check_sheet_of starts.now links.now anchored.now levels.now layers.now) (accepted_as 0 0 (size_of starts.now links.now)) refused_as }
+    ensures told { result ≡ levels_as (answer (check_sheet_of starts.now links.now anchored.now levels.now layers.now) (Ok (size_of starts.now links.now)) Err) }
     ensures tells { Tells starts.now links.now anchored.now levels.now layers.now result.number }
 {
     Answer::from(level_sheet::check::check_sheet(starts, links, anchored, levels, layers))
@@ -82,11 +87,12 @@ pub extern "C" fn planner_followers(
     x: usize,
     marks: &mut [u8],
 ) -> Answer
-    ensures { let G = graph_of starts.now links.now in
+    ensures fact { let G = graph_of starts.now links.now in
         let A = anchored_by anchored.now in
         let guard = search_of starts.now links.now anchored.now levels.now layers.now x (length marks.old) in
         (result ≡ answer guard (accepted_as (followers G A x) (reached G A x) (size_of starts.now links.now)) refused_as)
         × (marks.new ≡ held guard (marks_of starts.now links.now anchored.now x) marks.old) }
+    ensures told { result ≡ searched_as (followers_of starts.now links.now anchored.now levels.now layers.now x (length marks.old)) }
 {
     Answer::from(search::followers(starts, links, anchored, levels, layers, x, marks))
 }
@@ -100,9 +106,12 @@ pub extern "C" fn planner_ceiling(
     layers: &[u16],
     x: usize,
 ) -> Answer
-    ensures { let guard = ceiling_of starts.now links.now anchored.now levels.now layers.now x in
+    ensures answer { let guard = ceiling_of starts.now links.now anchored.now levels.now layers.now x in
         let G = graph_of starts.now links.now in
         result ≡ answer guard (accepted_as (ceiling G (anchored_by anchored.now) x) 0 (size_of starts.now links.now)) refused_as }
+    ensures told { let guard = ceiling_of starts.now links.now anchored.now levels.now layers.now x in
+        let G = graph_of starts.now links.now in
+        result ≡ bounded_as (answer guard (Ok (ceiling G (anchored_by anchored.now) x, size_of starts.now links.now)) Err) }
 {
     Answer::from(ceiling::ceiling(starts, links, anchored, levels, layers, x))
 }
@@ -117,9 +126,11 @@ pub extern "C" fn planner_collapse(
     x: usize,
     marks: &mut [u8],
 ) -> Answer
-    ensures { let guard = marking_of starts.now links.now anchored.now levels.now layers.now x (length marks.old) in
+    ensures fact { let guard = marking_of starts.now links.now anchored.now levels.now layers.now x (length marks.old) in
         (result ≡ answer guard (accepted_as 0 0 (size_of starts.now links.now)) refused_as)
         × (marks.new ≡ held guard (fall_marks_of starts.now links.now anchored.now x) marks.old) }
+    ensures told { let guard = marking_of starts.now links.now anchored.now levels.now layers.now x (length marks.old) in
+        result ≡ collapsed_as (answer guard (Ok (size_of starts.now links.now)) Err) }
 {
     Answer::from(collapse::collapse(starts, links, anchored, levels, layers, x, marks))
 }

@@ -1,10 +1,10 @@
 // A session over a list of events. `claim` is demand 3 of document 01, of every call that answers 0; the size is that of the table before the events.
-ghost use Rattle.std.specs.Prelude.{◌≡◌};
+ghost use Rattle.std.specs.Prelude.{◌≡◌, Ok, Err};
 ghost use Rattle.table.specs.Size.{size_of};
 ghost use Rattle.table.specs.Guard.{answer, held};
 ghost use Rattle.session.specs.Run.{lists, slices, run_of, ended};
 ghost use Rattle.session.specs.Claim.{Claim};
-ghost use Rattle.numbers.specs.Numbers.{accepted_as, refused_as};
+ghost use Rattle.numbers.specs.Numbers.{accepted_as, refused_as, ran_as};
 
 use numbers::Answer;
 
@@ -34,6 +34,10 @@ pub extern "C" fn planner_run(
         yields.new reached.new stamps.new status.new lifted.new redone.new in
         let guard = run_of given.now events lent in
         (result ≡ answer guard (accepted_as 0 0 (size_of starts.old links.old)) refused_as) × (after ≡ held guard (ended starts.old links.old given.now events) lent) }
+    ensures told { let events = lists kinds.now firsts.now seconds.now in
+        let lent = slices starts.old links.old anchored.old levels.old layers.old components.old
+        yields.old reached.old stamps.old status.old lifted.old redone.old in
+        result ≡ ran_as (answer (run_of given.now events lent) (Ok (size_of starts.old links.old)) Err) }
     ensures claim { result.number ≡ 0 → Claim starts.old links.old given.now (lists kinds.now firsts.now seconds.now) }
 {
     Answer::from(session::run::run(

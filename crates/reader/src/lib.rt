@@ -8,10 +8,11 @@ ghost use Rattle.reader.specs.Form.{skip_at, form_at};
 
 // "The reader keeps the text and a position in it" (document 01, rounds and the answer sheet). What a method takes is
 // behind it afterwards; where the text departs from what was to be taken, the answer is `None`.
+// The position may be any place, also past the text's end: `Reader { text, at }` stands there.
 #[derive(Clone, Copy)]
 pub struct Reader<'a> {
-    text: &'a [u8],
-    at: usize,
+    pub text: &'a [u8],
+    pub at: usize,
 }
 
 impl<'a> Reader<'a> {
@@ -85,6 +86,7 @@ impl<'a> Reader<'a> {
     }
 
     // Takes constant bytes; where others stand there, the position stays.
+    #[tactic(auto, using(crate::proofs::Forms::begins_front))]
     pub fn skip(&mut self, bytes: &[u8]) -> Option<()>
         ensures value { option_map (λ _. self.new.at) result ≡ skip_at self.old.text.now self.old.at bytes.now }
         ensures text { self.new.text ≡ self.old.text }

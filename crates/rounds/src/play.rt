@@ -49,7 +49,7 @@ fn play(
         x,
         &mut marks,
     );
-    let stepped = step::step(starts, links, *kept, x, round);
+    let stepped = step::step(starts, links, kept, x, round);
     *kept = stepped.kept;
     sheet::line::put_line(
         out,

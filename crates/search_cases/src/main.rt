@@ -13,17 +13,17 @@ use std::io;
 fn run_search(
     rt: &impl Print,
     name: &[u8],
-    pool: &Pool,
-    sheet: &Sheet,
+    pool: Pool<'_>,
+    sheet: Sheet<'_>,
     x: usize,
     marks: &mut [u8],
 ) -> io::Result<()> {
     let searched = followers(
-        &pool.starts,
-        &pool.links,
-        &pool.anchored,
-        &sheet.levels,
-        &sheet.layers,
+        pool.starts,
+        pool.links,
+        pool.anchored,
+        sheet.levels,
+        sheet.layers,
         x,
         marks,
     );
@@ -37,17 +37,17 @@ fn run_search(
 fn run_collapse(
     rt: &impl Print,
     name: &[u8],
-    pool: &Pool,
-    sheet: &Sheet,
+    pool: Pool<'_>,
+    sheet: Sheet<'_>,
     x: usize,
     marks: &mut [u8],
 ) -> io::Result<()> {
     let fallen = collapse(
-        &pool.starts,
-        &pool.links,
-        &pool.anchored,
-        &sheet.levels,
-        &sheet.layers,
+        pool.starts,
+        pool.links,
+        pool.anchored,
+        sheet.levels,
+        sheet.layers,
         x,
         marks,
     );
@@ -58,11 +58,14 @@ fn run_collapse(
 
 fn run_case(rt: &impl Print, case: &Case<'_>) -> io::Result<()> {
     let name = case.field(0);
-    let pool = case.pool(5, 12, 4)?;
-    let sheet = case.sheet(4, 5)?;
+    let (mut starts, mut links, mut anchored) = ([0; 5], [0; 12], [0; 4]);
+    let pool = case.pool(&mut starts, &mut links, &mut anchored);
+    let (mut levels, mut layers) = ([0; 4], [0; 5]);
+    let sheet = case.sheet(&mut levels, &mut layers);
     let x = case.number(6) as usize;
-    run_search(rt, name, &pool, &sheet, x, &mut case.bytes(7, 4)?)?;
-    run_collapse(rt, name, &pool, &sheet, x, &mut case.bytes(7, 4)?)
+    let mut marks = [0; 4];
+    run_search(rt, name, pool, sheet, x, case.bytes(7, &mut marks))?;
+    run_collapse(rt, name, pool, sheet, x, case.bytes(7, &mut marks))
 }
 
 fn main(rt: HostRuntime) -> io::Result<()> {

@@ -54,7 +54,7 @@ fn serve(
         let first = events.firsts[i] as usize;
         let second = events.seconds[i] as usize;
         let kind = events.kinds[i];
-        let stepped = events::turn(starts, links, kept, kind, first, second, i as u16 + 1);
+        let stepped = events::turn(starts, links, &kept, kind, first, second, i as u16 + 1);
         kept = stepped.kept;
         let row = stepped.row;
         status[i] = row.status;

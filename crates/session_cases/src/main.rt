@@ -7,7 +7,6 @@ ghost use Rattle.std.specs.Prelude.{◌≤◌, length};
 
 use cases::print::{Row, sound};
 use std::io;
-use table::{Refusal, Size};
 
 // A session's table, the anchored bytes that it is given, and its events.
 #[derive(Drop)]
@@ -65,21 +64,29 @@ impl Record {
     }
 }
 
-// Runs the events on the table; the record has a place for each vertex and event.
-fn serve(
-    session: &Session<'_>,
-    starts: &mut [u16],
-    links: &mut [u16],
-) -> (Result<Size, Refusal>, Record)
+// Prints the events, then the answer, and the record and the table as they are afterwards. The record has a place for each
+// vertex and event, and the table is copied into arrays, so no heap is needed.
+fn run(rt: &impl Print, session: &Session<'_>) -> io::Result<()>
+    requires starts_bound { length session.now.starts.now ≤ 5 }
+    requires links_bound { length session.now.links.now ≤ 16384 }
     requires given_bound { length session.now.given.now ≤ 4 }
     requires kinds_bound { length session.now.kinds.now ≤ 4097 }
 {
+    let name = session.name;
+    println!(rt; "{name} kinds{}", Row(session.kinds))?;
+    println!(rt; "{name} firsts{}", Row(session.firsts))?;
+    println!(rt; "{name} seconds{}", Row(session.seconds))?;
+    let mut places = [0; 5];
+    let starts = &mut places[..session.starts.len()];
+    starts.copy_from_slice(session.starts);
+    let mut links = [7; 16384];
+    links[..session.links.len()].copy_from_slice(session.links);
     let n = session.given.len();
     let m = session.kinds.len();
     let mut record = Record::of_sevens();
     let answer = session::run::run(
         starts,
-        links,
+        &mut links,
         session.given,
         session.kinds,
         session.firsts,
@@ -95,31 +102,15 @@ fn serve(
         &mut record.lifted[..m],
         &mut record.redone[..m],
     );
-    (answer, record)
-}
-
-// Prints the events, then the answer, and the record and the table as they are afterwards.
-fn run(rt: &(impl Print + AllocGlobal), session: &Session<'_>) -> io::Result<()>
-    requires given_bound { length session.now.given.now ≤ 4 }
-    requires kinds_bound { length session.now.kinds.now ≤ 4097 }
-{
-    let name = session.name;
-    println!(rt; "{name} kinds{}", Row(session.kinds))?;
-    println!(rt; "{name} firsts{}", Row(session.firsts))?;
-    println!(rt; "{name} seconds{}", Row(session.seconds))?;
-    let mut starts = session.starts.to_vec(rt.alloc())?;
-    let mut links = session.links.to_vec(rt.alloc())?;
-    links.resize(16384, 7)?;
-    let (answer, record) = serve(session, &mut starts, &mut links);
     print!(rt; "{name}")?;
     sound(rt, answer)?;
     record.print(rt, name)?;
-    println!(rt; "{name} starts{}", Row(&starts))?;
+    println!(rt; "{name} starts{}", Row(starts))?;
     println!(rt; "{name} links{}", Row(&links))
 }
 
 // Events of these kinds, on vertex 0, which is the only one.
-fn run_limit(rt: &(impl Print + AllocGlobal), name: &str, kinds: &[u16]) -> io::Result<()>
+fn run_limit(rt: &impl Print, name: &str, kinds: &[u16]) -> io::Result<()>
     requires { length kinds.now ≤ 4097 }
 {
     run(
@@ -136,7 +127,7 @@ fn run_limit(rt: &(impl Print + AllocGlobal), name: &str, kinds: &[u16]) -> io::
     )
 }
 
-fn run_nobody(rt: &(impl Print + AllocGlobal)) -> io::Result<()> {
+fn run_nobody(rt: &impl Print) -> io::Result<()> {
     run(
         rt,
         &Session {
@@ -153,7 +144,7 @@ fn run_nobody(rt: &(impl Print + AllocGlobal)) -> io::Result<()> {
 
 // Events on the chain of four vertices.
 fn run_chain(
-    rt: &(impl Print + AllocGlobal),
+    rt: &impl Print,
     name: &str,
     kinds: &[u16],
     firsts: &[u16],

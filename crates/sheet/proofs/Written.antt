@@ -1,21 +1,14 @@
 -- Laws of writing into lent bytes. Assumes nothing.
 use mathlib.Core.Path.{◌≡◌, refl, ap, ◌∙◌, subst}
 use mathlib.Core.List.{List, [], ◌∷◌, ◌++◌, append_assoc}
-use Prim.Native.Nat.{ℕ, ◌+◌, ◌-◌, ◌≤◌}
+use Prim.Native.Nat.{ℕ, ◌+◌, ◌≤◌}
 use native.Mathlib.Numerals.{add-one}
 use native.Mathlib.Omega.{arith}
 use lib.ListN.{length, take, drop, length-append}
-use lib.Seq.{sets, sets-eq, length-sets, drop-drop}
-use borrow.Rule.Slice.PartMut.{put_mid}
+use lib.Seq.{sets, sets-eq, length-sets}
 use Rattle.finite.specs.Count.{tabulate}
 use Rattle.finite.proofs.Stores.{sets-append}
 use Rattle.sheet.specs.Written.{Written}
-
--- a text copied into the part behind a place is stored there
-pub stored-part : (o text part : List ℕ) (a : ℕ) → a + length text ≤ length o → part ≡ text → put_mid a (a + length text - a) o part ≡ sets o a text
-stored-part o text part a h e =
-    let k : a + length text - a ≡ length text = omega arith in
-    rw (k, e, drop-drop, sets-eq text o a h, append_assoc)
 
 -- what is written may be said otherwise
 pub written_as : {o : List ℕ} {a : ℕ} {xs ys o₁ : List ℕ} {a₁ : ℕ} → xs ≡ ys → Written o a xs o₁ a₁ → Written o a ys o₁ a₁

@@ -191,9 +191,9 @@ impl<'a> Writer<'a> {
         ensures same_reference { self.new.out.ghost_name ≡ self.old.out.ghost_name }
         ensures wrote { Wrote self.old text.now self.new }
     {
-        let end = self.at + text.len();
-        self.out[self.at..end].copy_from_slice(text);
-        self.at = end;
+        for byte in text {
+            self.byte(*byte);
+        }
     }
 
     fn byte(&mut self, b: u8)

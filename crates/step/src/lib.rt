@@ -44,12 +44,13 @@ impl Stepped {
         }
     }
 
-    // What a refused one leaves: the record as it was; its status is the number of the rule.
-    pub fn refused(kept: Record, rule: Rule) -> Stepped
-        ensures { result ≡ refusing kept (rule_number rule) }
+    // What a refused one leaves: the record as it was; its status is the number of the rule. Records are lent, here and below: each one
+    // passed by value is copied once more.
+    pub fn refused(kept: &Record, rule: Rule) -> Stepped
+        ensures { result ≡ refusing kept.now (rule_number rule) }
     {
         Stepped {
-            kept,
+            kept: *kept,
             row: Row {
                 status: rule.number(),
                 lifted: 0,
@@ -103,13 +104,13 @@ pub fn redo(
 }
 
 // x, not anchored, is anchored too.
-fn accept(starts: &[u16], links: &[u16], kept: Record, x: usize, position: u16) -> Stepped
-    requires right { Right starts.now links.now kept }
+fn accept(starts: &[u16], links: &[u16], kept: &Record, x: usize, position: u16) -> Stepped
+    requires right { Right starts.now links.now kept.now }
     requires x_bound { x < vertices starts.now }
-    requires x_value { get_or kept.anchored x 0 ≡ 0 }
-    ensures { Turned starts.now links.now position x kept result }
+    requires x_value { get_or kept.now.anchored x 0 ≡ 0 }
+    ensures { Turned starts.now links.now position x kept.now result }
 {
-    let mut next = kept;
+    let mut next = *kept;
     next.anchored[x] = 1;
     next.columns = records::afresh::refresh(starts, links, &next.anchored);
     let mut marks = [0; 1024];
@@ -129,9 +130,9 @@ fn accept(starts: &[u16], links: &[u16], kept: Record, x: usize, position: u16) 
 }
 
 // One request on a record that is right: refused for no vertex or an anchored one, and else accepted.
-pub fn step(starts: &[u16], links: &[u16], kept: Record, x: usize, position: u16) -> Stepped
-    requires { Right starts.now links.now kept }
-    ensures { Turned starts.now links.now position x kept result }
+pub fn step(starts: &[u16], links: &[u16], kept: &Record, x: usize, position: u16) -> Stepped
+    requires { Right starts.now links.now kept.now }
+    ensures { Turned starts.now links.now position x kept.now result }
 {
     if starts.len() - 1 <= x {
         return Stepped::refused(kept, Rule::NoVertex);

@@ -7,7 +7,12 @@ ghost use Rattle.finite.specs.Search.{member, ascending};
 pub fn count_at_least(part: &[u16], least: usize) -> usize
     ensures { result ≡ count (leb least) part.now }
 {
-    part.iter().filter(|w| least <= **w as usize).count()
+    // added up and not filtered: there is no branch on what a comparison says, which is hard to foresee
+    let mut count = 0;
+    for w in part {
+        count += (least <= *w as usize) as usize;
+    }
+    count
 }
 
 // Whether the part is strictly ascending.
@@ -22,8 +27,20 @@ pub fn contains(part: &[u16], v: usize) -> bool
     requires { T (ascending part.now) }
     ensures { result ≡ member v part.now }
 {
-    let Ok(w) = u16::try_from(v) else {
-        return false;
-    };
-    part.binary_search(&w).is_ok()
+    let mut low = 0;
+    let mut high = part.len();
+    // halved until it is found or nothing is left
+    while low < high {
+        let middle = low + (high - low) / 2;
+        let w = part[middle] as usize;
+        if w == v {
+            return true;
+        }
+        if w < v {
+            low = middle + 1;
+        } else {
+            high = middle;
+        }
+    }
+    false
 }

@@ -9,18 +9,18 @@ use first_day::first_day;
 use std::io;
 
 fn run_case(rt: &impl Print, case: &Case<'_>) -> io::Result<()> {
-    let starts = case.numbers(1, 5)?;
-    let links = case.numbers(2, 12)?;
-    let vertices = case.numbers(3, 4)?;
-    let firsts = case.numbers(4, 4)?;
-    let ends = case.numbers(5, 4)?;
+    let (mut starts, mut links) = ([0; 5], [0; 12]);
+    let (mut vertices, mut firsts, mut ends) = ([0; 4], [0; 4], [0; 4]);
+    let starts = case.numbers(1, &mut starts);
+    let links = case.numbers(2, &mut links);
+    let vertices = case.numbers(3, &mut vertices);
+    let firsts = case.numbers(4, &mut firsts);
+    let ends = case.numbers(5, &mut ends);
     let from = case.number(6);
     let until = case.number(7);
     let x = case.number(8) as usize;
     let k = case.number(9);
-    let day = first_day(
-        &starts, &links, &vertices, &firsts, &ends, from, until, x, k,
-    );
+    let day = first_day(starts, links, vertices, firsts, ends, from, until, x, k);
     rt.write_all(case.field(0))?;
     answer(rt, day, |(day, size)| match day {
         Some(day) => println!(rt; " day {day} {}", Shown(size)),

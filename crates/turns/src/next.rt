@@ -91,14 +91,16 @@ pub fn find_house(
     None
 }
 
-// The turns after house c is served; they stay if it is none.
+// The turns after house c is served; they stay if it is none, or a number past the houses.
 pub fn take_turn(turns: &mut Turns, houses: usize, c: Option<usize>)
     requires houses_bound { houses ≤ 16 }
-    requires left { IfSome c (λ e. (e < houses) × (0 < get_or turns.old.left e 0)) }
+    requires left { IfSome c (λ e. e < houses → 0 < get_or turns.old.left e 0) }
     ensures { turns_by turns.new ≡ after_turn houses (unwrap_or c houses) (turns_by turns.old) }
 {
     if let Some(c) = c {
-        turns.next = turns_after(houses, c, 1);
-        turns.left[c] -= 1;
+        if c < houses {
+            turns.next = turns_after(houses, c, 1);
+            turns.left[c] -= 1;
+        }
     }
 }

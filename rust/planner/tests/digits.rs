@@ -6,8 +6,8 @@ use source::{file, functions, Function};
 
 const LINE: &str = "crates/sheet/src/line.rt";
 
-/// The parts of a line that have four digits, and the writer of these.
-const PARTS: [&str; 2] = ["retain", "redone"];
+/// The parts of a line that have four digits, the field alone, which program four_digits prints, and the writer of these.
+const PARTS: [&str; 3] = ["retain", "redone", "put_four"];
 const WRITER: &str = "four";
 
 /// What the gate has program four_digits print is what Rust prints.
@@ -17,15 +17,17 @@ fn every_number() {
     assert!(file("crates/four_digits/stdout") == numbers);
 }
 
-/// What may be called and is no function of the file: a slice's length, its copy, and a value that is there.
-const KNOWN: [&str; 3] = [".len", ".copy_from_slice", "Some"];
+/// What may be called and is no function of the file: a slice's length, and a value that is there.
+const KNOWN: [&str; 2] = [".len", "Some"];
 
-/// Whom a body calls: every word before a `(`, a method with its point, unless it is one of `self`, and what has a path with the end of that.
+/// Whom a body calls: every word before a `(`, a method with its point, unless it is one of `self` or of a writer that the body makes, and what
+/// has a path with the end of that.
 fn calls(body: &[&str]) -> Vec<String> {
     let is_word = |token: &str| token.starts_with(|c: char| c.is_alphabetic() || c == '_');
     let places = (1..body.len()).filter(|&i| body[i] == "(" && is_word(body[i - 1]));
+    let is_own = |owner: &str| owner == "self" || body.windows(4).any(|made| made == [owner, "=", "Writer", "{"]);
     let called = |i: usize| match body[..i] {
-        [.., "self", ".", name] => name.to_string(),
+        [.., owner, ".", name] if is_own(owner) => name.to_string(),
         [.., ".", name] => format!(".{name}"),
         [.., path, ":", ":", name] => format!("{path}::{name}"),
         _ => body[i - 1].to_string(),
@@ -72,6 +74,7 @@ fn divisions() {
     let wrong = |sentence: &str| Err(sentence.to_string());
     assert_eq!(told("v - 1 // v / 10", "D()"), Ok("a".into()));
     assert_eq!(told("match b(\"/\") { Some(x) => self.b(b'/') }", "a(0) - D"), Ok("a b c".into()));
+    assert_eq!(told("let w = Writer { v }; w.b(v)", "1"), Ok("a b c".into()));
     assert_eq!(told("v / 10", ""), wrong("a has /"));
     assert_eq!(told("b(v)", "v %= 10"), wrong("c has %"));
     assert_eq!(told("if b(v) { b(v) }", "D(v)"), wrong("D has /"));

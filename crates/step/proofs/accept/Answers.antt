@@ -10,7 +10,7 @@ overflow_cast-redone c = omega (arith, c.requires.right.admitted.table.small, re
 
 pub returns : goal.returns
 returns c =
-    let kept = c.args.kept in
+    let kept = c.args.kept.now in
     let right = c.requires.right in
     let columns = c.refresh-next.ensures in
     let found = c.mark_stale.ensures _ _ _ _ (anchor_known right.admitted.table right.columns columns) in

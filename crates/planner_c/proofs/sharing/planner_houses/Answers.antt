@@ -1,5 +1,10 @@
+use Rattle.std.proofs.Common.{ap, ◌∙◌}
+use Rattle.numbers.specs.Numbers.{shared_as}
 use Rattle.planner_c.proofs.Numbers.{told}
 use Rattle.planner_c.proofs.sharing.planner_houses.Goals as goal
 
-pub returns : goal.returns
-returns c = let w = c.share_rounds.ensures in (told _ _ _ c.from.ensures w.0, w.1)
+pub returns-clause-fact : goal.returns-clause-fact
+returns-clause-fact c = let w = c.share_rounds.ensures in (told _ _ _ c.from.ensures w.0, w.1)
+
+pub returns-clause-told : goal.returns-clause-told
+returns-clause-told c = c.from.ensures ∙ ap shared_as c.share_rounds.ensures.0

@@ -6,7 +6,7 @@ use Rattle.sheet.proofs.Lines.{decimal_short}
 use Rattle.sheet.proofs.line.put_refused.Goals as goal
 
 pub labeled-requires : goal.labeled-requires
-labeled-requires c = omega (arith, decimal_short c.args.number (omega arith))
+labeled-requires c = omega (arith, decimal_short c.args.number (omega arith), decimal_short c.args.place (omega arith))
 
 pub labeled-requires-2 : goal.labeled-requires-2
 labeled-requires-2 c = omega (arith, decimal_short c.args.number (omega arith), decimal_short c.args.place (omega arith), written-length c.labeled.ensures.wrote)
